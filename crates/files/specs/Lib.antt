@@ -1,0 +1,13 @@
+pub mod Bytes
+pub mod Directory
+pub mod ListFault
+pub mod Pattern
+pub mod Pieces
+pub mod Program
+pub mod ReadSystem
+pub mod Reader
+pub mod Sections
+pub mod Sizes
+pub mod SystemFault
+pub mod Transition
+pub mod Writer

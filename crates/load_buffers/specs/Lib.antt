@@ -1,0 +1,3 @@
+pub mod Messages
+pub mod Rows
+pub mod Undo
