@@ -2,8 +2,8 @@
 ghost use mathlib.Core.Path.{_≡_};
 ghost use Prim.Native.Nat.{_+_, _/_, _<_, _^_};
 ghost use lib.ListN.{length};
-ghost use Rattle.files.specs.Pieces.{Built, decoded, sectionFault};
 ghost use Rattle.files.specs.Pattern.{stateNamed, fitsAt, fits as fitsOf, patternOf};
+ghost use Rattle.files.specs.Pieces.{Built, decoded, sectionFault};
 use crate::pieces::piece;
 use crate::pieces::piece_count;
 use crate::system_fault::SystemFault;

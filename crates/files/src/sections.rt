@@ -15,19 +15,20 @@ pub(crate) fn pairs_fault(bytes: &[u8]) -> Option<usize>
     if n < 12 {
         return Some(n);
     }
-    let first_end = two_at(bytes, 0) + two_at(bytes, 2);
-    let second_end = two_at(bytes, 4) + two_at(bytes, 6);
-    let third_end = two_at(bytes, 8) + two_at(bytes, 10);
-    if two_at(bytes, 0) != 12 || two_at(bytes, 2) < 4 {
+    let first = two_at(bytes, 0);
+    let size = two_at(bytes, 2);
+    if first != 12 || size < 4 {
         return Some(0);
     }
-    if two_at(bytes, 4) != first_end {
+    let second = two_at(bytes, 4);
+    if second != first + size {
         return Some(4);
     }
-    if two_at(bytes, 8) != second_end {
+    let third = two_at(bytes, 8);
+    if third != second + two_at(bytes, 6) {
         return Some(8);
     }
-    if third_end != n {
+    if third + two_at(bytes, 10) != n {
         return Some(n);
     }
     None

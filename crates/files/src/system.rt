@@ -19,6 +19,7 @@ pub struct System {
     pub(crate) states: Vec<u8>,
     pub(crate) transitions: Vec<Transition>,
     pub(crate) patterns: Vec<Pattern>,
+    // what the lookups promise of every system
     ghost sized: { rightSizes (vec-items states) variables values ≡ true },
     ghost few: { length (vec-items transitions) ≤ 64 },
     ghost drawn: { every (isDrawn (vec-items states) variables values) (vec-items transitions) ≡ true },

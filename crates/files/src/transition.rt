@@ -58,8 +58,9 @@ fn operation_fits(variables: u8, values: u8, operation: Operation) -> bool
 {
     match operation {
         Operation::Nop | Operation::Fence => true,
-        Operation::Read { variable, value } => variable < variables && value < values,
-        Operation::Write { variable, value } => variable < variables && value < values,
+        Operation::Read { variable, value } | Operation::Write { variable, value } => {
+            variable < variables && value < values
+        }
         Operation::Exchange { variable, old, new } => variable < variables
             && old < values
             && new < values,

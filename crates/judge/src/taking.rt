@@ -1,7 +1,11 @@
-// Opening a folder, and taking a list file in.
+// Taking a list file in.
 ghost use mathlib.Core.Path.{_≡_};
 ghost use Prim.Native.Nat.{ℕ, _+_, _*_, _^_, _<_, _≤_};
-ghost use lib.ListN.{length};
+ghost use lib.ListN.{length, take};
+ghost use Rattle.std.specs.Options.{Cases};
+ghost use Rattle.files.specs.declared.list_fault.LineFault.{LineFault};
+ghost use Rattle.files.specs.declared.list_fault.ListFault.the-variants.{Line};
+ghost use Rattle.judge.specs.Calls.{TakeInLeaves};
 use super::fault::FolderFault;
 use super::fault::FolderFaultFromList;
 use super::folder::Folder;
@@ -13,7 +17,9 @@ use machines::Machine;
 use machines::OrderedRow;
 
 // The fault of the lowest wrong line.
-fn first_fault<M: Machine>(machine: &M, list: &ListReader) -> Option<ListFault> {
+fn first_fault<M: Machine>(machine: &M, list: &ListReader) -> Option<ListFault>
+    ensures { λ r. ⌜ Cases r (Unit {0}) (λ f. (i : ℕ) × (g : LineFault) × (f ≡ Line i g) × (i < now (list .entry) .count)) ⌝ }
+{
     for i in 0..list.count() {
         if let Some(line) = list.line(i) {
             if let Some(fault) = machine.line_fault(line.bytes) {
@@ -25,10 +31,17 @@ fn first_fault<M: Machine>(machine: &M, list: &ListReader) -> Option<ListFault> 
 }
 
 // Writes the rows of the lines one after another, from a place of memory on.
-fn write_rows<M: Machine>(machine: &M, list: &ListReader, memory: &mut [u8], from: usize, width: usize)
+fn write_rows<M: Machine>(
+    machine: &M,
+    list: &ListReader,
+    memory: &mut [u8],
+    from: usize,
+    width: usize,
+)
     requires count { ⌜ now list .count ≤ 1024 ⌝ }
     requires narrow { ⌜ width ≤ 60 ⌝ }
     requires room { ⌜ from + now list .count * width ≤ length (now memory) ⌝ }
+    ensures { λ _. ⌜ take from (now (memory .exit)) ≡ take from (now (memory .entry)) ⌝ }
 {
     for i in 0..list.count() {
         if let Some(line) = list.line(i) {
@@ -39,23 +52,10 @@ fn write_rows<M: Machine>(machine: &M, list: &ListReader, memory: &mut [u8], fro
 }
 
 impl<M: Machine> Folder<M> {
-    // An empty folder.
-    pub fn open(machine: M) -> Folder<M>
-        ensures machine { λ r. ⌜ r .machine ≡ machine ⌝ }
-        ensures empty { λ r. ⌜ r .count ≡ 0 ⌝ }
-    {
-        Folder { machine, count: 0 }
-    }
-
-    // How many lines stand.
-    pub fn count(&self) -> usize
-        ensures { λ r. ⌜ r ≡ now (self .entry) .count ⌝ }
-    {
-        self.count
-    }
-
     // Adds the lines of a list file in order, all or none.
     pub fn take_in(&mut self, memory: &mut [u8], file: &[u8]) -> Result<(), FolderFault>
+        ensures machine { λ _. ⌜ now (self .exit) .machine ≡ now (self .entry) .machine ⌝ }
+        ensures leaves { λ r. ⌜ TakeInLeaves (M·OrderedRow .width (now (self .entry) .machine)) (now (self .entry) .count) (now (self .exit) .count) (now (memory .entry)) (now (memory .exit)) (now (file .entry)) r ⌝ }
     {
         let width = self.machine.row_len();
         let needed = standing_bytes(self.count, width);

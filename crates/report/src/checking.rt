@@ -1,4 +1,6 @@
 // Judges a list file against a system file.
+ghost use Rattle.std.specs.Vec.{made};
+ghost use Rattle.report.specs.Checked.{Checked};
 use crate::outcome::Outcome;
 use files::system::System;
 use files::system_fault::SystemFault;
@@ -12,7 +14,9 @@ use std::alloc::AllocError;
 use std::alloc::Global;
 
 // Reads the system, takes the list into an empty folder over its load-buffer machine, and judges it.
-pub fn check(heap: Global, system: &[u8], list: &[u8]) -> Result<Outcome, AllocError> {
+pub fn check(heap: Global, system: &[u8], list: &[u8]) -> Result<Outcome, AllocError>
+    ensures { λ r. ⌜ made r (Checked (now (system .entry)) (now (list .entry))) ⌝ }
+{
     let system = match System::read(heap, system) {
         Ok(system) => system,
         Err(SystemFault::Memory) => return Err(AllocError),

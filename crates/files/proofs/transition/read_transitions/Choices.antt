@@ -1,7 +1,7 @@
 use mathlib.Core.Path.{_≡_}
 use Rattle.std.specs.Of.Vec.{vec-items}
-use Rattle.files.specs.Transition.{transitionOf}
 use Rattle.files.specs.Pieces.{decoded}
+use Rattle.files.specs.Transition.{transitionOf}
 use Rattle.files.proofs.transition.read_transitions.Given as given
 
 abbrev pub Inv-loop-i : given.InvT-loop-i

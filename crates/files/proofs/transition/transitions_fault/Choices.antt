@@ -1,7 +1,7 @@
 use mathlib.Core.Path.{_≡_}
 use Rattle.std.specs.declared.option.Option.the-variants.{None}
-use Rattle.files.specs.Transition.{transitionOf}
 use Rattle.files.specs.Pieces.{firstWrong}
+use Rattle.files.specs.Transition.{transitionOf}
 use Rattle.files.proofs.transition.transitions_fault.Given as given
 
 abbrev pub Inv-loop-i : given.InvT-loop-i
