@@ -55,7 +55,7 @@ impl<M: Machine> Folder<M> {
     // Adds the lines of a list file in order, all or none.
     pub fn take_in(&mut self, memory: &mut [u8], file: &[u8]) -> Result<(), FolderFault>
         ensures machine { λ _. ⌜ now (self .exit) .machine ≡ now (self .entry) .machine ⌝ }
-        ensures leaves { λ r. ⌜ TakeInLeaves (M·OrderedRow .width (now (self .entry) .machine)) (now (self .entry) .count) (now (self .exit) .count) (now (memory .entry)) (now (memory .exit)) (now (file .entry)) r ⌝ }
+        ensures leaves { λ r. ⌜ TakeInLeaves (M·OrderedRow .kind (now (self .entry) .machine) .width) (now (self .entry) .count) (now (self .exit) .count) (now (memory .entry)) (now (memory .exit)) (now (file .entry)) r ⌝ }
     {
         let width = self.machine.row_len();
         let needed = standing_bytes(self.count, width);

@@ -1,2 +1,5 @@
 pub mod Parts
 pub mod Powers
+pub mod Backward
+pub mod Comparing
+pub mod Below

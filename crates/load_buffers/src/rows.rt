@@ -4,7 +4,7 @@ ghost use Prim.Native.Nat.{ℕ, _+_, _≤_, _<_};
 ghost use lib.ListN.{length, getD};
 ghost use Rattle.std.specs.Orderings.{Decides};
 ghost use Rattle.files.specs.Program.{Ranges, program, sizesOf};
-ghost use Rattle.load_buffers.specs.Rows.{RowFits, Storable, QueueFits, queueOf, rowLength};
+ghost use Rattle.load_buffers.specs.Rows.{RowFits, Storable, QueuesFit, queueOf, rowLength};
 use super::layout::queue_of;
 use super::layout::row_length;
 use super::queue::queue_fits;
@@ -53,7 +53,7 @@ fn queues_fit(sizes: Sizes, row: &[u8], most: u8) -> bool
     requires ranges { ⌜ Ranges sizes ⌝ }
     requires long { ⌜ length (now row) ≡ rowLength sizes ⌝ }
     requires most { ⌜ most ≤ 9 ⌝ }
-    ensures { λ r. ⌜ Decides r ((p : ℕ) → p < sizes .processes → QueueFits sizes most (queueOf sizes p (now (row .entry)))) ⌝ }
+    ensures { λ r. ⌜ Decides r (QueuesFit sizes most (now (row .entry))) ⌝ }
 {
     for p in 0..usize::from(sizes.processes) {
         if !queue_fits(sizes, queue_of(sizes, row, p), most) {

@@ -6,3 +6,4 @@ pub mod LoadBuffers
 pub mod Plain
 pub mod Order
 pub mod Kind
+pub mod Predecessors
