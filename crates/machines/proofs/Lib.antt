@@ -6,3 +6,8 @@ pub mod Steps
 pub mod Views
 pub mod Configs
 pub mod Predecessors
+pub mod Runs
+pub mod Pending
+pub mod Following
+pub mod Matched
+pub mod Worked

@@ -7,3 +7,5 @@ pub mod Plain
 pub mod Order
 pub mod Kind
 pub mod Predecessors
+pub mod Matched
+pub mod Examples
