@@ -11,3 +11,4 @@ pub mod Pending
 pub mod Following
 pub mod Matched
 pub mod Worked
+pub mod Staying
