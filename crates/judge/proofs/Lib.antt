@@ -1,2 +1,5 @@
-pub mod Leaves
+pub mod Adding
+pub mod Answers
+pub mod Cover
+pub mod Escapes
 pub mod Rows

@@ -1,11 +1,11 @@
 // Taking a list file in.
 ghost use mathlib.Core.Path.{_≡_};
-ghost use Prim.Native.Nat.{ℕ, _+_, _*_, _^_, _<_, _≤_};
-ghost use lib.ListN.{length, take};
-ghost use Rattle.std.specs.Options.{Cases};
-ghost use Rattle.files.specs.declared.list_fault.LineFault.{LineFault};
-ghost use Rattle.files.specs.declared.list_fault.ListFault.the-variants.{Line};
-ghost use Rattle.judge.specs.Calls.{TakeInLeaves};
+ghost use Prim.Native.Nat.{_+_, _*_, _≤_};
+ghost use lib.ListN.{length};
+ghost use Rattle.std.specs.declared.option.Option.the-variants.{None};
+ghost use Rattle.files.specs.Bytes.{two};
+ghost use Rattle.files.specs.Directory.{dirFault};
+ghost use Rattle.judge.specs.Calls.{Added, AllLines, FirstFault, TakeInAnswer};
 use super::fault::FolderFault;
 use super::fault::FolderFaultFromList;
 use super::folder::Folder;
@@ -18,7 +18,9 @@ use machines::OrderedRow;
 
 // The fault of the lowest wrong line.
 fn first_fault<M: Machine>(machine: &M, list: &ListReader) -> Option<ListFault>
-    ensures { λ r. ⌜ Cases r (Unit {0}) (λ f. (i : ℕ) × (g : LineFault) × (f ≡ Line i g) × (i < now (list .entry) .count)) ⌝ }
+    requires right { ⌜ dirFault (now (now list .bytes)) ≡ None ⌝ }
+    requires count { ⌜ now list .count ≡ two (now (now list .bytes)) 0 ⌝ }
+    ensures { λ r. ⌜ FirstFault (M·Machine .rules (now (machine .entry))) (now (now (list .entry) .bytes)) (now (list .entry) .count) r ⌝ }
 {
     for i in 0..list.count() {
         if let Some(line) = list.line(i) {
@@ -30,22 +32,26 @@ fn first_fault<M: Machine>(machine: &M, list: &ListReader) -> Option<ListFault>
     None
 }
 
-// Writes the rows of the lines one after another, from a place of memory on.
+// Writes the rows of the lines one after another, behind those that stand.
 fn write_rows<M: Machine>(
     machine: &M,
     list: &ListReader,
     memory: &mut [u8],
-    from: usize,
+    standing: usize,
     width: usize,
 )
-    requires count { ⌜ now list .count ≤ 1024 ⌝ }
+    requires right { ⌜ dirFault (now (now list .bytes)) ≡ None ⌝ }
+    requires count { ⌜ now list .count ≡ two (now (now list .bytes)) 0 ⌝ }
+    requires lines { ⌜ AllLines (M·Machine .rules (now machine)) (now (now list .bytes)) (now list .count) ⌝ }
+    requires few { ⌜ standing + now list .count ≤ 1024 ⌝ }
     requires narrow { ⌜ width ≤ 60 ⌝ }
-    requires room { ⌜ from + now list .count * width ≤ length (now memory) ⌝ }
-    ensures { λ _. ⌜ take from (now (memory .exit)) ≡ take from (now (memory .entry)) ⌝ }
+    requires wide { ⌜ width ≡ M·OrderedRow .kind (now machine) .width ⌝ }
+    requires room { ⌜ (standing + now list .count) * width ≤ length (now memory) ⌝ }
+    ensures { λ _. ⌜ Added (M·OrderedRow .kind (now (machine .entry))) (M·Machine .rules (now (machine .entry))) (now (now (list .entry) .bytes)) standing (now (list .entry) .count) (now (memory .entry)) (now (memory .exit)) ⌝ }
 {
     for i in 0..list.count() {
         if let Some(line) = list.line(i) {
-            let at = from + i * width;
+            let at = (standing + i) * width;
             machine.read_line(line.bytes, &mut memory[at..at + width]);
         }
     }
@@ -55,7 +61,7 @@ impl<M: Machine> Folder<M> {
     // Adds the lines of a list file in order, all or none.
     pub fn take_in(&mut self, memory: &mut [u8], file: &[u8]) -> Result<(), FolderFault>
         ensures machine { λ _. ⌜ now (self .exit) .machine ≡ now (self .entry) .machine ⌝ }
-        ensures leaves { λ r. ⌜ TakeInLeaves (M·OrderedRow .kind (now (self .entry) .machine) .width) (now (self .entry) .count) (now (self .exit) .count) (now (memory .entry)) (now (memory .exit)) (now (file .entry)) r ⌝ }
+        ensures answer { λ r. ⌜ TakeInAnswer (M·OrderedRow .kind (now (self .entry) .machine)) (M·Machine .rules (now (self .entry) .machine)) (now (self .entry) .count) (now (self .exit) .count) (now (memory .entry)) (now (memory .exit)) (now (file .entry)) r ⌝ }
     {
         let width = self.machine.row_len();
         let needed = standing_bytes(self.count, width);
@@ -70,7 +76,7 @@ impl<M: Machine> Folder<M> {
         if list.count() > most.saturating_sub(self.count) {
             return Err(FolderFault::Full(self.count));
         }
-        write_rows(&self.machine, &list, memory, needed, width);
+        write_rows(&self.machine, &list, memory, self.count, width);
         self.count += list.count();
         Ok(())
     }

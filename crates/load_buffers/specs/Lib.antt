@@ -1,6 +1,11 @@
 pub mod Messages
 pub mod Rows
+pub mod Lines
+pub mod Reading
 pub mod Undo
+pub mod Backs
+pub mod StepRows
 pub mod Configs
+pub mod BadRows
 pub mod LoadRules
 pub mod Notes

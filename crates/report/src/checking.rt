@@ -1,11 +1,16 @@
 // Judges a list file against a system file.
+ghost use mathlib.Core.Path.{_≡_};
+ghost use lib.ListN.{length};
 ghost use Rattle.std.specs.Vec.{made};
-ghost use Rattle.report.specs.Checked.{Checked};
+ghost use Rattle.files.specs.Program.{program};
+ghost use Rattle.report.specs.Checked.{Checked, ListJudged};
 use crate::outcome::Outcome;
+use files::refusal::Refusal;
 use files::system::System;
 use files::system_fault::SystemFault;
 use judge::Folder;
 use judge::MOST_LINES;
+use judge::Verdict;
 use load_buffers::LoadBuffers;
 use load_buffers::LoadMachine;
 use load_buffers::LoadRow;
@@ -13,7 +18,26 @@ use machines::OrderedRow;
 use std::alloc::AllocError;
 use std::alloc::Global;
 
-// Reads the system, takes the list into an empty folder over its load-buffer machine, and judges it.
+// Takes the list into an empty folder over the system's load-buffer machine, and judges it: the count of lines, and the
+// verdict. Memory holds every list, and rows that were taken in are storable, so the judge does not refuse.
+fn judge_list(system: System, memory: &mut [u8], list: &[u8]) -> Result<(usize, Verdict), Refusal>
+    requires { ⌜ length (now memory) ≡ 49152 ⌝ }
+    ensures { λ r. ⌜ ListJudged (program system) (now (list .entry)) r ⌝ }
+{
+    let mut strip = [0; LoadRow::WIDTH];
+    let mut witness = [0; LoadRow::WIDTH];
+    let mut folder = Folder::open(LoadBuffers::new(system));
+    if let Err(fault) = folder.take_in(memory, list) {
+        return Err(fault.refusal());
+    }
+    let lines = folder.count();
+    match folder.judge(memory, &mut strip, &mut witness) {
+        Ok(verdict) => Ok((lines, verdict)),
+        Err(_) => unreachable(),
+    }
+}
+
+// Reads the system, and judges the list against it.
 pub fn check(heap: Global, system: &[u8], list: &[u8]) -> Result<Outcome, AllocError>
     ensures { λ r. ⌜ made r (Checked (now (system .entry)) (now (list .entry))) ⌝ }
 {
@@ -24,15 +48,8 @@ pub fn check(heap: Global, system: &[u8], list: &[u8]) -> Result<Outcome, AllocE
     };
     let sizes = system.sizes();
     let mut memory = vec![in heap; 0; MOST_LINES * LoadRow::WIDTH]?;
-    let mut strip = [0; 48];
-    let mut witness = [0; 48];
-    let mut folder = Folder::open(LoadBuffers::new(system));
-    if let Err(fault) = folder.take_in(&mut memory, list) {
-        return Ok(Outcome::NoList(sizes, fault.refusal()));
-    }
-    let lines = folder.count();
-    match folder.judge(&memory, &mut strip, &mut witness) {
-        Ok(verdict) => Ok(Outcome::Judged(sizes, lines, verdict)),
-        Err(fault) => Ok(Outcome::NoVerdict(sizes, lines, fault.refusal())),
+    match judge_list(system, &mut memory, list) {
+        Ok((lines, verdict)) => Ok(Outcome::Judged(sizes, lines, verdict)),
+        Err(refusal) => Ok(Outcome::NoList(sizes, refusal)),
     }
 }

@@ -10,8 +10,6 @@ pub enum Outcome {
     NoSystem(Refusal),
     // the list file is refused
     NoList(Sizes, Refusal),
-    // so many lines were taken in, and the judge turned them down
-    NoVerdict(Sizes, usize, Refusal),
     // so many lines were taken in and judged
     Judged(Sizes, usize, Verdict),
 }
@@ -48,11 +46,6 @@ pub impl fmt::Display for Outcome as OutcomeDisplay {
             Outcome::NoSystem(refusal) => write_refusal(f, refusal),
             Outcome::NoList(sizes, refusal) => {
                 write_sizes(f, sizes)?;
-                write_refusal(f, refusal)
-            }
-            Outcome::NoVerdict(sizes, lines, refusal) => {
-                write_sizes(f, sizes)?;
-                writeln!(f, "lines {lines}")?;
                 write_refusal(f, refusal)
             }
             Outcome::Judged(sizes, lines, verdict) => {
