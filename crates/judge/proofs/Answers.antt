@@ -1,5 +1,5 @@
 -- From the verdict on the rows to what judge promises.
-use mathlib.Core.Path.{_≡_, ap, subst, _∙_}
+use mathlib.Core.Path.{_≡_, ap, _∙_}
 use mathlib.Core.List.{List, _++_}
 use Prim.Native.Nat.{ℕ, _-_, _≤_}
 use native.Mathlib.Omega.{arith}
@@ -15,7 +15,6 @@ use Rattle.judge.specs.declared.fault.FolderFault.the-variants.{Short, List as
 use Rattle.judge.specs.declared.verdict.Verdict.{Verdict}
 use Rattle.judge.specs.declared.verdict.Verdict.the-variants.{Safe, Start, Bad, Leak}
 use Rattle.judge.specs.Calls.{Room, RowsJudged, JudgeAnswer, SafeHolds}
-use Rattle.judge.specs.Search.{Covered}
 use Rattle.judge.specs.Standing.{standing, zeros}
 use Rattle.judge.specs.Verdicts.{Judged, Uncovered, Harmless}
 

@@ -1,17 +1,14 @@
--- What holds of the program of every system.
-use mathlib.Core.Path.{_≡_}
-use mathlib.Core.Bool.{true}
+-- What more holds of the program of every system: its state counts and its patterns.
 use Prim.Native.Nat.{ℕ, _<_}
-use native.Mathlib.Omega.{arith}
 use lib.ListN.{length, getD}
 use Rattle.std.proofs.shelf.Maps.{nth-getD}
-use Rattle.std.proofs.shelf.Ways.{tells}
 use Rattle.files.proofs.Invariant.{between-from, every-at, fitting-from, sized-from}
 use Rattle.files.specs.Pattern.{fits}
 use Rattle.files.specs.Program.{Between, Fitting, Program, Ranges, program, sizesOf}
-use Rattle.files.specs.Sizes.{oneTo, rightSizes}
+use Rattle.files.specs.Sizes.{oneTo}
 use Rattle.files.specs.declared.pattern.Pattern.{Pattern}
 use Rattle.files.specs.declared.system.System.{System}
+use Rattle.load_buffers.proofs.Systems.{ranges-of}
 
 pub record Right (s : Program) : Type 0 where
   pub ranges : Ranges (sizesOf s)
@@ -32,15 +29,5 @@ module _ (m : System) where
       fitting-from (program m) (getD xs i d) (sized .0)
       (every-at (fits (program m .states)) xs i (getD xs i d) (nth-getD xs i d h) (m .fitting))
 
-  sizes-in : rightSizes (program m .states) (m .variables) (m .values) ≡ true → Ranges (sizesOf (program m))
-  sizes-in h =
-      record {
-        processes = grind (arith, tells);
-        variables = grind (arith, tells);
-        values = grind (arith, tells);
-        transitions = m .few;
-        patterns = m .short;
-      }
-
   pub right : Right (program m)
-  right = record { ranges = sizes-in (m .sized); counts = states-at; fitting = pattern-at }
+  right = record { ranges = ranges-of m; counts = states-at; fitting = pattern-at }

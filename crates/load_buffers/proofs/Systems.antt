@@ -1,4 +1,4 @@
--- What holds of the program of every system.
+-- What holds of the program of every system: its sizes and its transitions.
 use native.Mathlib.Omega.{arith}
 use lib.ListN.{getD}
 use Rattle.std.proofs.shelf.Maps.{nth-getD}

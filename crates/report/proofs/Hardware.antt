@@ -1,6 +1,6 @@
 -- From the judge's answer on the rows that were taken in to what is said of the list.
 use mathlib.Core.Path.{_≡_, refl, sym, ap, subst, _∙_}
-use mathlib.Core.List.{List, [], _++_}
+use mathlib.Core.List.{List, []}
 use mathlib.Core.Logic.{inl, inr}
 use Prim.Native.Nat.{ℕ, _+_, _-_, _*_, _<_, _≤_}
 use native.Mathlib.Nat.{zero-mul}
@@ -16,7 +16,6 @@ use Rattle.machines.specs.LoadBuffers.{loadStart}
 use Rattle.machines.specs.Matched.{StoreSafe}
 use Rattle.machines.proofs.Matched.{store-safe}
 use Rattle.machines.proofs.Staying.{run-stays, start-in-range}
-use Rattle.load_buffers.specs.Configs.{loadKind}
 use Rattle.load_buffers.specs.LoadRules.{loadRules}
 use Rattle.load_buffers.proofs.Programs.{right}
 use Rattle.load_buffers.proofs.Systems.{drawn-of}

@@ -3,7 +3,6 @@ use mathlib.Core.Bool.{false≢true}
 use Prim.Native.Nat.{_+_, _-_, _*_, _≤_}
 use native.Mathlib.Omega.{arith}
 use lib.ListN.{length, take, drop}
-use Rattle.files.specs.Directory.{lineOf}
 use Rattle.machines.specs.Kind.{IsLine}
 use Rattle.judge.specs.Calls.{Added}
 use Rattle.judge.proofs.Adding.{added-none, added-more, part-long, read-done}

@@ -4,7 +4,6 @@ use native.Mathlib.Omega.{arith}
 use borrow.Author.Count.{below-more}
 use lib.ListN.{getD, length}
 use Rattle.std.proofs.shelf.Maps.{nth-getD}
-use Rattle.std.specs.declared.option.Option.the-variants.{Some, None}
 use Rattle.files.specs.Program.{program}
 use Rattle.load_buffers.proofs.rows.states_fit.Needs as need
 

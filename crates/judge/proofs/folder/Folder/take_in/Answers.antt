@@ -1,5 +1,5 @@
 use mathlib.Core.Path.{_≡_, refl, sym, ap, subst, _∙_}
-use Prim.Native.Nat.{_+_, _-_, _*_, _/_, _<_, _≤_, min}
+use Prim.Native.Nat.{_-_, _*_, _/_, _<_, _≤_, min}
 use native.Mathlib.Nat.{add-mul}
 use native.Mathlib.Omega.{arith}
 use borrow.Author.Needs.{needs}
