@@ -3,7 +3,7 @@
 
 usage: python3 tools/respell.py [ROOT]     once, right after the kit's own script; ROOT is the repository's top
 
-respell.tsv has a line for each name: the old one, a tab, the new one. Names of functions in src/, strings, inputs and
+respell.tsv has a line for each name: the old one, a tab, the new one, and for a record's field a tab and the word field. Names of functions in src/, strings, inputs and
 outputs stay. In comments and documents only names in camel case are turned, since others read like plain words.
 """
 
@@ -19,7 +19,8 @@ ANTT_COMMENT = re.compile(r"--[^\n]*")
 
 def table():
     with open(os.path.join(HERE, "respell.tsv"), encoding="utf-8") as f:
-        return dict(line.rstrip("\n").split("\t") for line in f)
+        rows = [line.rstrip("\n").split("\t") for line in f]
+    return {row[0]: row[1] for row in rows}, {row[0] for row in rows if row[2:] == ["field"]}
 
 
 def is_field(text, at):
@@ -30,30 +31,31 @@ def is_field(text, at):
     return not (before and before[1][0].isupper())
 
 
-def turned(text, names, dashes):
+def turned(text, known, dashes):
     """The text with each name turned; names with dashes only where dashes may be turned."""
+    names, fields = known
 
     def one(m):
         word = m[0]
         new = names.get(word)
         if new is None:
             return word
-        if "-" in word and (not dashes or is_field(text, m.start())):
+        if "-" in word and (not dashes or (word not in fields and is_field(text, m.start()))):
             return word
         return new
 
     return WORD.sub(one, text)
 
 
-def by_parts(text, names, skipped):
+def by_parts(text, known, skipped):
     """As turned, where comments and strings keep their dashes."""
     out, at = [], 0
     for m in skipped.finditer(text):
-        out.append(turned(text[at : m.start()], names, True))
+        out.append(turned(text[at : m.start()], known, True))
         kept = m[0]
-        out.append(turned(kept, names, False) if kept.startswith(("//", "--")) else kept)
+        out.append(turned(kept, known, False) if kept.startswith(("//", "--")) else kept)
         at = m.end()
-    out.append(turned(text[at:], names, True))
+    out.append(turned(text[at:], known, True))
     return "".join(out)
 
 
@@ -67,7 +69,7 @@ def files(root):
 
 
 def main(root):
-    names = table()
+    known = table()
     for path in files(root):
         ending = os.path.splitext(path)[1]
         if ending not in (".rt", ".antt", ".edit", ".md"):
@@ -75,11 +77,11 @@ def main(root):
         with open(path, encoding="utf-8") as f:
             text = f.read()
         if ending == ".rt":
-            new = by_parts(text, names, CODE)
+            new = by_parts(text, known, CODE)
         elif ending == ".antt":
-            new = by_parts(text, names, ANTT_COMMENT)
+            new = by_parts(text, known, ANTT_COMMENT)
         else:
-            new = turned(text, names, ending == ".edit")
+            new = turned(text, known, ending == ".edit")
         if new != text:
             with open(path, "w", encoding="utf-8") as f:
                 f.write(new)

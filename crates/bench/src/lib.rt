@@ -1,4 +1,6 @@
 // Moves played by hand on the three machines.
+#![tactic(auto)]
+
 mod begin;
 mod bench;
 mod checks;

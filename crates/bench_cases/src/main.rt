@@ -1,4 +1,6 @@
 // Plays the cases of cases.txt, and says where what is printed is not what is expected.
+#![tactic(auto)]
+
 mod case;
 mod session;
 

@@ -1,4 +1,6 @@
 // Tests of the lines of a script, and of the bench at its limits.
+#![tactic(auto)]
+
 #[cfg(test)]
 mod limit_tests;
 #[cfg(test)]

@@ -1,4 +1,6 @@
 // What a bench holds, in bytes and in words.
+#![tactic(auto)]
+
 mod record;
 mod show;
 

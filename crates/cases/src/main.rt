@@ -1,4 +1,6 @@
 // Runs the cases of each text, and says where an answer is not the expected one.
+#![tactic(auto)]
+
 mod case;
 mod reply;
 mod request;

@@ -1,5 +1,7 @@
 // Grows list.bin over system.bin until nothing is missing, a start is inside or no line can be added, and writes the list
 // to completed.bin; in this folder, or in the one that is named.
+#![tactic(auto)]
+
 mod growing;
 
 use anyhow::anyhow;

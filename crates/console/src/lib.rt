@@ -1,4 +1,6 @@
 // What the programs share: the words they are called with, the files of a folder, and bytes as text.
+#![tactic(auto)]
+
 mod hex;
 mod input;
 

@@ -1,4 +1,6 @@
 // The two files that the judge is given: a system, and a list of configurations.
+#![tactic(auto)]
+
 mod bytes;
 mod directory;
 pub mod list;

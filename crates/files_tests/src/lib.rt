@@ -1,4 +1,6 @@
 // Tests of the readers of the two files.
+#![tactic(auto)]
+
 #[cfg(test)]
 mod hex;
 #[cfg(test)]

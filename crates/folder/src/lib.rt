@@ -1,4 +1,6 @@
 // A folder of lines over any machine: its calls.
+#![tactic(auto)]
+
 mod entering;
 mod folder;
 mod growing;

@@ -1,4 +1,6 @@
 // The front of a row, with which the rows of every machine begin: the state of each process, the value of each variable.
+#![tactic(auto)]
+
 mod bad;
 mod digit;
 mod found;

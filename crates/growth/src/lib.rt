@@ -1,4 +1,6 @@
 // The row by which a folder grows: a storable missing one with no other strictly below it.
+#![tactic(auto)]
+
 mod missing;
 mod pick;
 mod picking;

@@ -1,4 +1,6 @@
 // The judge of lines over any machine.
+#![tactic(auto)]
+
 mod judging;
 mod uncovered;
 mod verdict;

@@ -1,4 +1,6 @@
 // Lists of calls on one folder, and the ledger that they keep.
+#![tactic(auto)]
+
 mod call;
 mod driver;
 

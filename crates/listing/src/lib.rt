@@ -1,4 +1,6 @@
 // The rows of a folder as a list file.
+#![tactic(auto)]
+
 mod bytes;
 mod writing;
 

@@ -61,7 +61,7 @@ module _ (z : Sizes) (l : List ℕ) (at count : ℕ) where
         let g = taken_ok (is_message z) l (at + 1 + i) b t in
         let o : at + 1 + i + 1 ≡ at + 1 + (i + 1) = omega arith in
         record {
-          count_is = part.count-is;
+          count_is = part.count_is;
           few = part.few;
           within = omega (arith, g.0);
           ten = queue_more l at i j b q e (omega arith) g.0 g.2 part.ten;

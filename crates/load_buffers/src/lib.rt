@@ -1,4 +1,6 @@
 // The load-buffer machine of a system.
+#![tactic(auto)]
+
 mod back;
 mod bad;
 mod layout;

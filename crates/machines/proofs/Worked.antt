@@ -82,6 +82,6 @@ leaves_out =
     record {
       seen = below_from_walk (omit refl (keep end));
       older = below_from_walk (omit refl (keep end));
-      only = λ b. cons≢nil (sym b.same-dividers);
-      newer = λ b. let e = b.same-dividers in apart cc;
+      only = λ b. cons≢nil (sym b.same_dividers);
+      newer = λ b. let e = b.same_dividers in apart cc;
     }

@@ -1,4 +1,6 @@
 // What the judge asks of a machine.
+#![tactic(auto)]
+
 mod basis;
 mod examples;
 mod hardware;

@@ -1,4 +1,6 @@
 // The plain machine of a system.
+#![tactic(auto)]
+
 mod lines;
 mod machine;
 mod plain;

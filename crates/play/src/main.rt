@@ -1,5 +1,7 @@
 // Plays script.bin on a machine of system.bin, in this folder or in the one that is named: `store`, `load` or `plain`, and
 // the folder.
+#![tactic(auto)]
+
 use anyhow::anyhow;
 use bench::Bench;
 use board::{Record, show_held, show_queues, show_refusal};

@@ -1,4 +1,6 @@
 // One kind of queue, for pending stores and for load messages.
+#![tactic(auto)]
+
 mod fifo;
 mod load;
 mod message;

@@ -1,4 +1,6 @@
 // A list judged against its system, from the two files to the lines that are printed.
+#![tactic(auto)]
+
 mod checking;
 mod outcome;
 

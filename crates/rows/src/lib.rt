@@ -1,4 +1,6 @@
 // The rows that stand in a folder: where they lie, what is below what, and why a call is turned down.
+#![tactic(auto)]
+
 mod fault;
 mod lines;
 mod search;

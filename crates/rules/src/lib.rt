@@ -1,4 +1,6 @@
 // The rules of the three machines, as they are played: what an act does to memory and to the queue of its process.
+#![tactic(auto)]
+
 mod act;
 mod effect;
 mod load_buffers;

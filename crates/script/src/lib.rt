@@ -1,4 +1,6 @@
 // Scripts: moves written one to a line, played on a bench.
+#![tactic(auto)]
+
 mod command;
 mod run;
 

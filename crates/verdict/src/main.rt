@@ -1,4 +1,6 @@
 // Judges list.bin against system.bin, in this folder or in the one that is named.
+#![tactic(auto)]
+
 use console::{folder_named, read};
 use report::check;
 

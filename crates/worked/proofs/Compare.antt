@@ -114,6 +114,6 @@ numbers_eq xs ys e = rw e (numbers_same ys)
 pub below_is : (c d : Config) → LoadBelow c d → is_below c d ≡ true
 below_is c d h =
     and_from (same_numbers c.states d.states) (same_numbers c.memory d.memory && each_walks c.queues d.queues)
-    (numbers_eq c.states d.states h.same-states)
+    (numbers_eq c.states d.states h.same_states)
     (and_from (same_numbers c.memory d.memory) (each_walks c.queues d.queues)
     (numbers_eq c.memory d.memory h.same_memory) (each_below c.queues d.queues h.thinned))

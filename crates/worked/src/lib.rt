@@ -1,4 +1,6 @@
 // Worked examples of the judge.
+#![tactic(auto)]
+
 mod examples;
 
 pub use examples::verdicts_hold;

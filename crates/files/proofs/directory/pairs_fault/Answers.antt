@@ -2,10 +2,10 @@ use Rattle.std.proofs.Common.{◌≡◌, suc, ◌+◌, ◌-◌, ◌*◌, sym, �
 use Rattle.files.proofs.Walks.{walk_bad, walk_good, walk_end, walk_over}
 use Rattle.files.proofs.directory.pairs_fault.Goals as goal
 
-pub returns-then-two-at-due : goal.returns-then-two-at-due
-returns-then-two-at-due c =
+pub returns-then-two_at-due : goal.returns-then-two_at-due
+returns-then-two_at-due c =
     let k = c.args.n - c.loop-i.i - 1 in
-    let e = walk_bad k (2 + 4 * c.loop-i.i) c.loop-i.due c.args.bytes.now (λ h. c.if-two-at-due.true (c.two-at.ensures.value ∙ h)) in
+    let e = walk_bad k (2 + 4 * c.loop-i.i) c.loop-i.due c.args.bytes.now (λ h. c.if-two_at-due.true (c.two_at.ensures.value ∙ h)) in
     sym e ∙ c.loop-i.invariant.1 (suc k) (omega arith)
 
 pub loop-i-preserved : goal.loop-i-preserved
@@ -14,9 +14,9 @@ loop-i-preserved c = (
   λ k h.
       let bs = c.args.bytes.now in
       let i = c.loop-i.i in
-      let e = walk_good k (2 + 4 * i) c.loop-i.due bs (sym c.two-at.ensures.value ∙ c.if-two-at-due.false) in
+      let e = walk_good k (2 + 4 * i) c.loop-i.due bs (sym c.two_at.ensures.value ∙ c.if-two_at-due.false) in
       let p : 2 + 4 * (i + 1) ≡ 2 + 4 * i + 4 = omega arith in
-      let d = c.two-at-due.ensures.value in
+      let d = c.two_at-due.ensures.value in
       let inv = c.loop-i.invariant.1 (suc k) (omega arith) in
       cc,
 )
