@@ -10,4 +10,4 @@ returns g c =
     let xs = c.args.self.now.places.now in
     let l = length-take n xs in
     let e : c.len-n.result - 0 ≡ min n (length xs) = omega arith in
-    c.newest-in.ensures ∙ ap (λ q. newest c.args.variable (map g.M.Message.kind.means q)) (ap (λ k. take k xs) e ∙ take_min n xs)
+    c.newest_in.ensures ∙ ap (λ q. newest c.args.variable (map g.M.Message.kind.means q)) (ap (λ k. take k xs) e ∙ take_min n xs)

@@ -12,4 +12,4 @@ pub returns : goal.returns
 returns c =
     let v = c.args.self.now in
     let n = standing_length v.width v.count v.bytes.now in
-    (omega arith, c.row-at.ensures ∙ sym (standing_at v.width v.count v.bytes.now c.args.number (omega arith)))
+    (omega arith, c.row_at.ensures ∙ sym (standing_at v.width v.count v.bytes.now c.args.number (omega arith)))
