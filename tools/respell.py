@@ -14,6 +14,7 @@ import sys
 HERE = os.path.dirname(os.path.realpath(__file__))
 WORD = re.compile(r"[A-Za-zℕ_][\wℕ']*(?:-[\wℕ']+)*")
 CODE = re.compile(r'//[^\n]*|"(?:\\.|[^"\\])*"|\'(?:\\.|[^\'\\])\'')
+SHORT = re.compile(r"(?m)^(?:ghost )?use [\w.]+ as ([a-z]\w*)")
 ANTT_COMMENT = re.compile(r"--[^\n]*")
 
 
@@ -23,24 +24,24 @@ def table():
     return {row[0]: row[1] for row in rows}, {row[0] for row in rows if row[2:] == ["field"]}
 
 
-def is_field(text, at):
+def is_field(text, at, short):
     """Whether the word at this place follows a dot that is no path's: then it is a step's or a record's name."""
     if at == 0 or text[at - 1] != ".":
         return False
-    before = re.search(r"([\w'◌-]+)\.$", text[:at])
-    return not (before and before[1][0].isupper())
+    before = re.search(r"([\w'◌-]+)\.$", text[max(0, at - 200) : at])
+    return not (before and (before[1][0].isupper() or before[1] in short))
 
 
 def turned(text, known, dashes):
     """The text with each name turned; names with dashes only where dashes may be turned."""
-    names, fields = known
+    names, fields, short = known
 
     def one(m):
         word = m[0]
         new = names.get(word)
         if new is None:
             return word
-        if "-" in word and (not dashes or (word not in fields and is_field(text, m.start()))):
+        if "-" in word and (not dashes or (word not in fields and is_field(text, m.start(), short))):
             return word
         return new
 
@@ -69,13 +70,14 @@ def files(root):
 
 
 def main(root):
-    known = table()
+    names, fields = table()
     for path in files(root):
         ending = os.path.splitext(path)[1]
         if ending not in (".rt", ".antt", ".edit", ".md"):
             continue
         with open(path, encoding="utf-8") as f:
             text = f.read()
+        known = names, fields, set(SHORT.findall(text))
         if ending == ".rt":
             new = by_parts(text, known, CODE)
         elif ending == ".antt":

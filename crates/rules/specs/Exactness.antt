@@ -35,8 +35,8 @@ none_some e h = let z : ◌≡◌ {A = ℕ} 0 1 = cc in omega arith
 
 module _ (s : Program) (p t q q' : ℕ) (mem : List ℕ) where
   store_read : (b : Queue) (x v : ℕ) → Leads s t p q (Read x v) q' → (o : Option ℕ) → newest x b ≡ o → (unwrap_or o (slice_index mem x) == v) ≡ true → store.StoreRule s p (view mem q b) (transition t) (view mem q' b)
-  store_read b x v l (Some n) e h = store.reads-own l (e ∙ ap Some (eqb-true n v h))
-  store_read b x v l None e h = store.reads-memory l e (eqb-true (slice_index mem x) v h)
+  store_read b x v l (Some n) e h = store.reads_own l (e ∙ ap Some (eqb-true n v h))
+  store_read b x v l None e h = store.reads_memory l e (eqb-true (slice_index mem x) v h)
 
   store_operates : (b : Queue) (o : Operation) (e : Effect StoreMessage) → Leads s t p q o q' → store_operation o mem b ≡ Some e → store.StoreRule s p (view mem q b) (transition t) (applied store_kind e q' (view mem q b))
   store_operates b Nop e l h = let z : e ≡ still = cc in rw z (store.nops l)
@@ -70,9 +70,9 @@ store_complete s p v v' mv (store.nops {q'} l) = (Operate Nop, (q', (still, ((No
 store_complete s p v v' mv (store.writes {q'} {x} {v = w} l) =
     (Operate (Write x w), (q', (record { write = None; change = Join (record { variable = x; value = w }) }, ((Write x w, l, refl), refl, refl))))
 store_complete s p v v' mv (store.updates {q} {x} {v = w}) = (Update, (q, (record { write = Some (x, w); change = Leave }, ((refl, refl), refl, refl))))
-store_complete s p v v' mv (store.reads-own {mem} {q'} {x} {v = w} l n) =
+store_complete s p v v' mv (store.reads_own {mem} {q'} {x} {v = w} l n) =
     (Operate (Read x w), (q', (still, ((Read x w, l, refl), cond-true _ _ _ (eq-eqb _ _ (ap (λ o. unwrap_or o (slice_index mem x)) n)), refl))))
-store_complete s p v v' mv (store.reads-memory {mem} {q'} {x} {v = w} l n m) =
+store_complete s p v v' mv (store.reads_memory {mem} {q'} {x} {v = w} l n m) =
     (Operate (Read x w), (q', (still, ((Read x w, l, refl), cond-true _ _ _ (eq-eqb _ _ (ap (λ o. unwrap_or o (slice_index mem x)) n ∙ m)), refl))))
 store_complete s p v v' mv (store.fences {q'} l) = (Operate Fence, (q', (still, ((Fence, l, refl), refl, refl))))
 store_complete s p v v' mv (store.exchanges {q'} {x} {v = w} {w = y} l m) =
@@ -97,10 +97,10 @@ module _ (s : Program) (p t q q' : ℕ) (mem : List ℕ) where
       let r = and_parts (y == x) (w == v) h in
       let e = eqb-true y x r.0 in
       let f = eqb-true w v r.1 in
-      rw (e, f) (load.reads-seen l n)
+      rw (e, f) (load.reads_seen l n)
 
   load_read : (b : Queue) (x v : ℕ) → Leads s t p q (Read x v) q' → (o : Option ℕ) → newest x b ≡ o → yields o x v b ≡ true → load.LoadRule s p (view mem q b) (transition t) (view mem q' b)
-  load_read b x v l (Some n) e h = load.reads-own l (e ∙ ap Some (eqb-true n v h))
+  load_read b x v l (Some n) e h = load.reads_own l (e ∙ ap Some (eqb-true n v h))
   load_read [] x v l None e h = let z : ◌≡◌ {A = ℕ} 0 1 = cc in absurd (omega arith)
   load_read (m ∷ b) x v l None e h = load_seen m.own m.variable m.value b x v l (none_newer (newest x b) (tells x m) e) h
 
@@ -137,9 +137,9 @@ load_complete s p v v' mv (load.writes {q'} {x} {v = w} l) =
     (Operate (Write x w), (q', (record { write = Some (x, w); change = Join (record { own = true; variable = x; value = w }) }, ((Write x w, l, refl), refl, refl))))
 load_complete s p v v' mv (load.propagates {mem} {q} {x} h) = (Propagate x, (q, (propagated x mem, ((h, refl, refl), refl, refl))))
 load_complete s p v v' mv (load.deletes {q}) = (Delete, (q, (record { write = None; change = Leave }, ((refl, refl), refl, refl))))
-load_complete s p v v' mv (load.reads-own {b} {q'} {x} {v = w} l n) =
+load_complete s p v v' mv (load.reads_own {b} {q'} {x} {v = w} l n) =
     (Operate (Read x w), (q', (still, ((Read x w, l, refl), cond-true _ _ _ (ap (λ o. yields o x w b) n ∙ eq-eqb w w refl), refl))))
-load_complete s p v v' mv (load.reads-seen {b} {q'} {x} {v = w} l n) =
+load_complete s p v v' mv (load.reads_seen {b} {q'} {x} {v = w} l n) =
     let y = and_from (x == x) (w == w) (eq-eqb x x refl) (eq-eqb w w refl) in
     (Operate (Read x w), (q', (still, ((Read x w, l, refl), cond-true _ _ _ (ap (λ o. yields (option_or o None) x w (seen_of x w ∷ b)) n ∙ y), refl))))
 load_complete s p v v' mv (load.fences {q'} l) = (Operate Fence, (q', (still, ((Fence, l, refl), refl, refl))))

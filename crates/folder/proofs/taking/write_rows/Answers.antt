@@ -6,16 +6,16 @@ use Rattle.folder.specs.Taking.{Added}
 use Rattle.folder.proofs.Adding.{added_none, added_more, part_long, read_done}
 use Rattle.rows.proofs.Rows.{product_small, row_end}
 use Rattle.folder.proofs.taking.write_rows.Goals as goal
-use Rattle.folder.proofs.taking.write_rows.Goals.{in-Some, in-default}
+use Rattle.folder.proofs.taking.write_rows.Goals.{in-Some, in_default}
 
-pub overflow-add-at-in-Some : goal.overflow-add-at-in-Some
-overflow-add-at-in-Some g c =
+pub overflow_add-at-in-Some : goal.overflow_add-at-in-Some
+overflow_add-at-in-Some g c =
     let e = row_end (c.args.standing + c.loop-i.i) (c.args.standing + c.args.list.now.count) c.args.width (omega arith) in
     let small = product_small (c.args.standing + c.args.list.now.count) c.args.width c.requires.few c.requires.narrow in
     omega (arith, e, small)
 
-pub slice-bounds-read-line-end : goal.slice-bounds-read-line-end
-slice-bounds-read-line-end g c =
+pub slice_bounds-read_line-end : goal.slice_bounds-read_line-end
+slice_bounds-read_line-end g c =
     let e = row_end (c.args.standing + c.loop-i.i) (c.args.standing + c.args.list.now.count) c.args.width (omega arith) in
     omega (arith, e, c.requires.room)
 
@@ -37,14 +37,14 @@ loop-i-preserved g c =
     elim c.match-line.branch [
       | in-Some w ↦
           let at = (n + i) * v in
-          let row = w.read-line.new.row in
+          let row = w.read_line.new.row in
           let e = row_end (n + i) (n + c.args.list.now.count) v (omega arith) in
           let room : at + v ≤ length l = omega (arith, e, c.requires.room) in
           let was = take (at + v - at) (drop at l) in
           let long : length was ≡ k.width = part_long at v l room ∙ c.requires.wide in
           let line = w.in-Some.ensures.handed.3 in
-          let done = read_done k u w.in-Some.line.bytes.now was row w.read-line.result w.read-line.ensures long (subst (IsLine u) (sym line) (c.requires.lines i (omega arith))) in
+          let done = read_done k u w.in-Some.line.bytes.now was row w.read_line.result w.read_line.ensures long (subst (IsLine u) (sym line) (c.requires.lines i (omega arith))) in
           subst (Added k u file n (i + 1) m) (sym w.memory-is)
-          (added_more k u file n m i v l row c.requires.wide room (w.read-line.auto.row ∙ long) (subst (λ q. RowOf u q row) line done) c.loop-i.invariant)
-      | in-default w ↦ absurd (false≢true (w.in-default.ensures.every c.requires.right c.requires.count (omega arith)))
+          (added_more k u file n m i v l row c.requires.wide room (w.read_line.auto.row ∙ long) (subst (λ q. RowOf u q row) line done) c.loop-i.invariant)
+      | in_default w ↦ absurd (false≢true (w.in_default.ensures.every c.requires.right c.requires.count (omega arith)))
     ]

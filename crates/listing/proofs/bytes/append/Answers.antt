@@ -9,4 +9,4 @@ returns c =
     let x = c.args.bytes.now in
     let place = c.args.place.now in
     let k = at + length x - at in
-    record { end = refl; written = ap (put_mid at k place) c.copy-from-slice.ensures.after ∙ laid_part at k x place (omega arith) }
+    record { end = refl; written = ap (put_mid at k place) c.copy_from_slice.ensures.after ∙ laid_part at k x place (omega arith) }

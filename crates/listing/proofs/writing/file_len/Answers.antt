@@ -11,14 +11,14 @@ loop-row-init g c =
     let n = standing_length v.width v.count v.bytes.now in
     (omega arith, omega arith, omega arith)
 
-pub overflow-add-size-in-Some : goal.overflow-add-size-in-Some
-overflow-add-size-in-Some g c =
+pub overflow_add-size-in-Some : goal.overflow_add-size-in-Some
+overflow_add-size-in-Some g c =
     let v = c.args.lines.now in
     let n = standing_length v.width v.count v.bytes.now in
     omega (arith, c.in-Some.ensures.0)
 
-pub overflow-add-i : goal.overflow-add-i
-overflow-add-i g c =
+pub overflow_add-i : goal.overflow_add-i
+overflow_add-i g c =
     let v = c.args.lines.now in
     let n = standing_length v.width v.count v.bytes.now in
     omega (arith, c.in-Some.ensures.0)
@@ -34,5 +34,5 @@ pub returns : goal.returns
 returns g c =
     let u = g.M.Machine.rules c.args.machine.now in
     let ls = rows_of c.args.lines.now in
-    let all = ap (λ l. length (text_of l)) (lines_all u ls c.loop-row.i c.in-default.ensures) in
+    let all = ap (λ l. length (text_of l)) (lines_all u ls c.loop-row.i c.in_default.ensures) in
     omega (arith, length_file u ls)

@@ -13,18 +13,18 @@ pub loop-row-init : goal.loop-row-init
 loop-row-init g c =
     let v = c.args.lines.now in
     let n = standing_length v.width v.count v.bytes.now in
-    let e = c.append-at.ensures.end ∙ ap (λ l. 0 + length l) c.two-bytes.ensures in
+    let e = c.append-at.ensures.end ∙ ap (λ l. 0 + length l) c.two_bytes.ensures in
     (omega arith, omega arith, omega arith, omega arith, sym (no_pairs 2 (2 + 4 * length (rows_of v)) c.append-at.new.place))
 
-pub append-pair-at-requires : goal.append-pair-at-requires
-append-pair-at-requires g c =
+pub append_pair-at-requires : goal.append_pair-at-requires
+append_pair-at-requires g c =
     let v = c.args.lines.now in
     let n = standing_length v.width v.count v.bytes.now in
     let here = c.in-Some.ensures in
     record { room = omega (arith, here.0); low = omega (arith, here.0); short = omega arith }
 
-pub overflow-add-offset-in-Some : goal.overflow-add-offset-in-Some
-overflow-add-offset-in-Some g c =
+pub overflow_add-offset-in-Some : goal.overflow_add-offset-in-Some
+overflow_add-offset-in-Some g c =
     let v = c.args.lines.now in
     let n = standing_length v.width v.count v.bytes.now in
     omega (arith, c.in-Some.ensures.0)
@@ -41,19 +41,19 @@ loop-row-preserved g c =
     let more = length_more u ls i a here.0 here.1 in
     let offset = 2 + 4 * length ls in
     let pairs = pairs_of offset (first_lines u ls i) in
-    let pair = two_bytes c.loop-row.offset ++ two_bytes c.line-len-size.result in
+    let pair = two_bytes c.loop-row.offset ++ two_bytes c.line_len-size.result in
     let front = c.append-at.new.place in
     let e : at ≡ 2 + length pairs = omega (arith, inv.1, length_pairs offset (first_lines u ls i), length_first u ls i inv.0) in
     let f : at ≤ length front = omega (arith, here.0) in
     let p : pairs ++ pair ≡ pairs_of offset (first_lines u ls (i + 1)) =
-    ap (λ o. pairs ++ (two_bytes o ++ two_bytes c.line-len-size.result)) inv.2
-    ∙ ap (λ o. pairs ++ (two_bytes (offset + length (text_of (first_lines u ls i))) ++ two_bytes o)) c.line-len-size.ensures.size
+    ap (λ o. pairs ++ (two_bytes o ++ two_bytes c.line_len-size.result)) inv.2
+    ∙ ap (λ o. pairs ++ (two_bytes (offset + length (text_of (first_lines u ls i))) ++ two_bytes o)) c.line_len-size.ensures.size
     ∙ sym (pairs_more u ls i a here.0 here.1 offset) in (
       omega (arith, here.0),
       omega arith,
       omega arith,
       omega arith,
-      c.append-pair-at.ensures.written ∙ ap (laid at pair) inv.4 ∙ laid_more 2 at pairs pair front e f ∙ ap (λ l. laid 2 l front) p,
+      c.append_pair-at.ensures.written ∙ ap (laid at pair) inv.4 ∙ laid_more 2 at pairs pair front e f ∙ ap (λ l. laid 2 l front) p,
     )
 
 pub returns : goal.returns
@@ -63,13 +63,13 @@ returns g c =
     let ls = rows_of v in
     let place = c.args.place.now in
     let inv = c.loop-row.invariant in
-    let end = c.in-default.ensures in
+    let end = c.in_default.ensures in
     let xs = map u.line_of ls in
     let n : length ls ≡ v.count = standing_length v.width v.count v.bytes.now in
     let k : length xs ≡ length ls = length-map ls u.line_of in
     let pairs = pairs_of (2 + 4 * length ls) xs in
     let count = two_bytes v.count in
-    let front : c.append-at.new.place ≡ laid 0 count place = c.append-at.ensures.written ∙ ap (λ l. laid 0 l place) c.two-bytes.ensures in
+    let front : c.append-at.new.place ≡ laid 0 count place = c.append-at.ensures.written ∙ ap (λ l. laid 0 l place) c.two_bytes.ensures in
     let whole : count ++ pairs ≡ directory_of xs =
     ap (λ q. two_bytes q ++ pairs) (sym (k ∙ n)) ∙ ap (λ q. two_bytes (length xs) ++ pairs_of (2 + 4 * q) xs) (sym k) in
     record {

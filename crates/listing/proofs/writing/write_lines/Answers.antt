@@ -11,24 +11,24 @@ use Rattle.listing.proofs.writing.write_lines.Goals as goal
 pub loop-row-init : goal.loop-row-init
 loop-row-init g c = (omega arith, omega arith, sym (laid_none c.args.start c.args.place.now))
 
-pub slice-bounds-put-line-count : goal.slice-bounds-put-line-count
-slice-bounds-put-line-count g c =
+pub slice_bounds-put_line-count : goal.slice_bounds-put_line-count
+slice_bounds-put_line-count g c =
     let u = g.M.Machine.rules c.args.machine.now in
     let ls = rows_of c.args.lines.now in
     let here = c.in-Some.ensures in
     let fits = text_fits u ls c.loop-row.i c.in-Some.row.now here.0 here.1 in
     omega arith
 
-pub slice-bounds-put-line-start : goal.slice-bounds-put-line-start
-slice-bounds-put-line-start g c =
+pub slice_bounds-put_line-start : goal.slice_bounds-put_line-start
+slice_bounds-put_line-start g c =
     let u = g.M.Machine.rules c.args.machine.now in
     let ls = rows_of c.args.lines.now in
     let here = c.in-Some.ensures in
     let fits = text_fits u ls c.loop-row.i c.in-Some.row.now here.0 here.1 in
     omega arith
 
-pub put-line-at-requires : goal.put-line-at-requires
-put-line-at-requires g c =
+pub put_line-at-requires : goal.put_line-at-requires
+put_line-at-requires g c =
     let u = g.M.Machine.rules c.args.machine.now in
     let ls = rows_of c.args.lines.now in
     let here = c.in-Some.ensures in
@@ -40,16 +40,16 @@ put-line-at-requires g c =
       room = rw length-take (omega arith);
     }
 
-pub overflow-add-at : goal.overflow-add-at
-overflow-add-at g c =
+pub overflow_add-at : goal.overflow_add-at
+overflow_add-at g c =
     let u = g.M.Machine.rules c.args.machine.now in
     let ls = rows_of c.args.lines.now in
     let here = c.in-Some.ensures in
     let fits = text_fits u ls c.loop-row.i c.in-Some.row.now here.0 here.1 in
     omega arith
 
-pub overflow-add-i : goal.overflow-add-i
-overflow-add-i g c =
+pub overflow_add-i : goal.overflow_add-i
+overflow_add-i g c =
     let v = c.args.lines.now in
     let n = standing_length v.width v.count v.bytes.now in
     omega (arith, c.in-Some.ensures.0)
@@ -71,7 +71,7 @@ loop-row-preserved g c =
     let w : at ≤ length p = omega arith in (
       omega (arith, here.0),
       omega arith,
-      ap (put_mid at (length p - at) p) c.put-line-at.ensures.written
+      ap (put_mid at (length p - at) p) c.put_line-at.ensures.written
           ∙ laid_rest at (length p - at) (u.line_of a) p refl w
           ∙ ap (laid at (u.line_of a)) c.loop-row.invariant.2
           ∙ laid_more start at done (u.line_of a) place c.loop-row.invariant.1 (omega arith)
@@ -82,4 +82,4 @@ pub returns : goal.returns
 returns g c =
     let u = g.M.Machine.rules c.args.machine.now in
     let ls = rows_of c.args.lines.now in
-    c.loop-row.invariant.2 ∙ ap (λ l. laid c.args.start (text_of l) c.args.place.now) (lines_all u ls c.loop-row.i c.in-default.ensures)
+    c.loop-row.invariant.2 ∙ ap (λ l. laid c.args.start (text_of l) c.args.place.now) (lines_all u ls c.loop-row.i c.in_default.ensures)

@@ -7,13 +7,13 @@ use Rattle.load_buffers.proofs.Filled.{filled_all, filled_fault, filled_more, fi
 use Rattle.load_buffers.proofs.Parts.{sizes_are}
 use Rattle.load_buffers.proofs.lines.fill_row.Goals as goal
 
-pub returns-in-err-end : goal.returns-in-err-end
-returns-in-err-end c =
-    let p = err_from_is_err_and c.from-residual-in-err-end.result c.from-residual-in-err-end.ensures.1 in
+pub returns-in_err-end : goal.returns-in_err-end
+returns-in_err-end c =
+    let p = err_from_is_err_and c.from_residual-in_err-end.result c.from_residual-in_err-end.ensures.1 in
     let s = program c.args.system.now in
     let v = c.sizes-sizes.ensures.value in
     let z = sizes_are s c.sizes-sizes.result v in
-    let f = filled_fault s c.args.line.now c.loop-p.row c.loop-p.end c.loop-p.p c.loop-p.invariant c.in-err-end.field-0.0 (omega arith) (rw v at c.in-err-end.ensures) in
+    let f = filled_fault s c.args.line.now c.loop-p.row c.loop-p.end c.loop-p.p c.loop-p.invariant c.in_err-end.field-0.0 (omega arith) (rw v at c.in_err-end.ensures) in
     rw (p.1, p.2) f
 
 pub loop-p-preserved : goal.loop-p-preserved
@@ -21,11 +21,11 @@ loop-p-preserved c =
     let s = program c.args.system.now in
     let v = c.sizes-sizes.ensures.value in
     let z = sizes_are s c.sizes-sizes.result v in
-    let at : c.queue-at-at.result ≡ front_len s + 10 * c.loop-p.p = omega arith in
-    let long : c.queue-at-at.result + 10 ≤ length c.loop-p.row = omega arith in
-    let ten : length c.fill-queue.new.queue ≡ 10 = omega (arith, simp (length-take, length-drop) at c.fill-queue.auto.queue) in
+    let at : c.queue_at-at.result ≡ front_len s + 10 * c.loop-p.p = omega arith in
+    let long : c.queue_at-at.result + 10 ≤ length c.loop-p.row = omega arith in
+    let ten : length c.fill_queue.new.queue ≡ 10 = omega (arith, simp (length-take, length-drop) at c.fill_queue.auto.queue) in
     filled_more s c.args.line.now c.loop-p.row c.loop-p.end c.loop-p.p c.loop-p.invariant
-    c.queue-at-at.result _ c.in-ok-end.end c.fill-queue.new.queue at (omega arith) ten (rw v at c.in-ok-end.ensures)
+    c.queue_at-at.result _ c.in_ok-end.end c.fill_queue.new.queue at (omega arith) ten (rw v at c.in_ok-end.ensures)
 
 pub returns-then-end-line : goal.returns-then-end-line
 returns-then-end-line c =

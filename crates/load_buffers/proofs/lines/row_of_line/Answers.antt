@@ -8,5 +8,5 @@ pub returns : goal.returns
 returns c =
     let w = row_length (sizes_of (program c.args.system.now)) in
     let e : row_length c.sizes.result ≡ w = ap row_length c.sizes.ensures.value in
-    let n : length c.fill-row.new.row ≡ w = omega (arith, simp length-take at c.fill-row.auto.row) in
-    (c.in-ok-fill-row.ensures.0, take_at c.fill-row.new.row _ w n ∙ c.in-ok-fill-row.ensures.1)
+    let n : length c.fill_row.new.row ≡ w = omega (arith, simp length-take at c.fill_row.auto.row) in
+    (c.in_ok-fill_row.ensures.0, take_at c.fill_row.new.row _ w n ∙ c.in_ok-fill_row.ensures.1)

@@ -5,11 +5,11 @@ use Rattle.load_buffers.specs.Rows.{row_length}
 use Rattle.load_buffers.specs.Fronts.{front_from, memory_from, states_from}
 use Rattle.load_buffers.proofs.rows.row_fits.Goals as goal
 
-pub returns-then-not-front-fits : goal.returns-then-not-front-fits
-returns-then-not-front-fits c =
+pub returns-then-not-front_fits : goal.returns-then-not-front_fits
+returns-then-not-front_fits c =
     let s = program c.args.system.now in (
       λ e. absurd (false≢true e),
-      λ g. c.if-not-front-fits.ensures.1 (front_from s c.args.row.now c.front-length.result c.front-length.ensures.value c.args.most g),
+      λ g. c.if-not-front_fits.ensures.1 (front_from s c.args.row.now c.front_length.result c.front_length.ensures.value c.args.most g),
     )
 
 pub returns : goal.returns
@@ -17,13 +17,13 @@ returns c =
     let s = program c.args.system.now in
     let row = c.args.row.now in
     let sizes = c.sizes-sizes.ensures.value in
-    let here = c.front-length.ensures.value in
-    let f = c.if-not-front-fits.ensures.0 refl in (
+    let here = c.front_length.ensures.value in
+    let f = c.if-not-front_fits.ensures.0 refl in (
       λ e. record {
-        long = c.if-row-row-length.false ∙ c.row-length.ensures.value ∙ ap row_length sizes;
-        states = states_from s row c.front-length.result here f;
-        memory = memory_from s row c.front-length.result here f;
-        queues = rw sizes at (c.queues-fit.ensures.0 e);
+        long = c.if-row-row_length.false ∙ c.row_length.ensures.value ∙ ap row_length sizes;
+        states = states_from s row c.front_length.result here f;
+        memory = memory_from s row c.front_length.result here f;
+        queues = rw sizes at (c.queues_fit.ensures.0 e);
       },
-      λ g. c.queues-fit.ensures.1 (rw sizes g.queues),
+      λ g. c.queues_fit.ensures.1 (rw sizes g.queues),
     )

@@ -24,7 +24,7 @@ returns-then-line-i c =
 pub returns-then-line-long : goal.returns-then-line-long
 returns-then-line-long c =
     let l = c.args.line.now in
-    let long = c.front-length-long.result in
+    let long = c.front_length-long.result in
     let all : c.loop-i.i ≡ long = omega arith in (
       omega arith,
       begins_front (known c.args.system.now) l long (omega arith) (omega arith) (rw all at c.loop-i.invariant.1),

@@ -14,7 +14,7 @@ returns-in-err--held g c =
     let n = c.args.self.now.count in
     let m = c.args.memory.now in
     let told = c.in-err--held.ensures.answer in
-    let p = err_from_is_err_and c.from-residual.result c.from-residual.ensures.1 in
+    let p = err_from_is_err_and c.from_residual.result c.from_residual.ensures.1 in
     rw (p.1, p.2) (record { ruled = inl (counted w n m (λ i. (holds_rows w i (length m)).Fails c.in-err--held.field-0.0) told); strip = rw told.1 refl; witness = rw told.1 refl; safe = tt })
 
 pub returns : goal.returns
@@ -27,14 +27,14 @@ returns g c =
     let m = c.args.memory.now in
     let s = length c.args.strip.now in
     let t = length c.args.witness.now in
-    let r = c.judge-lines.result in
-    let wide = c.row-len.ensures.value in
-    let told = c.judge-lines.ensures in
+    let r = c.judge_lines.result in
+    let wide = c.row_len.ensures.value in
+    let told = c.judge_lines.ensures in
     let answer = subst (λ v. Answered (judge_checks k u (standing v n m) s t) (Judged k u (standing v n m)) r) wide told.answer in
     let held = counted w n m (λ i. (holds_rows w i (length m)).Passes) c.in-ok--held.ensures.answer.0 in
     record {
       ruled = checked_first (holds_rows w (length (standing w n m)) (length m)) (judge_checks k u (standing w n m) s t) (Judged k u (standing w n m)) r held answer;
       strip = told.strip;
-      witness = subst (λ v. WitnessLeft k u (standing v n m) r c.args.witness.now c.judge-lines.new.witness) wide told.witness;
+      witness = subst (λ v. WitnessLeft k u (standing v n m) r c.args.witness.now c.judge_lines.new.witness) wide told.witness;
       safe = told.safe;
     }

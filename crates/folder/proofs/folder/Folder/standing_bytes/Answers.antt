@@ -5,5 +5,5 @@ use Rattle.folder.proofs.folder.Folder.standing_bytes.Goals as goal
 pub returns : goal.returns
 returns g c =
     let n = c.args.self.now.count in
-    let e = ap (λ v. n * v) c.row-len.ensures.value in
-    record { answer = (omega arith, (e, product_small n c.row-len.result c.args.self.now.few c.row-len.ensures.narrow)) }
+    let e = ap (λ v. n * v) c.row_len.ensures.value in
+    record { answer = (omega arith, (e, product_small n c.row_len.result c.args.self.now.few c.row_len.ensures.narrow)) }

@@ -11,13 +11,13 @@ use Rattle.folder.proofs.Adding.{counted}
 use Rattle.folder.proofs.Struck.{rows_around, struck_behind, struck_rows}
 use Rattle.folder.proofs.folder.Folder.strike.Goals as goal
 
-pub returns-in-err-end : goal.returns-in-err-end
-returns-in-err-end g c =
+pub returns-in_err-end : goal.returns-in_err-end
+returns-in_err-end g c =
     let w = (g.M.OrderedRow.kind c.args.self.now.machine).width in
     let n = c.args.self.now.count in
     let m = c.args.memory.now in
-    let p = err_from_is_err_and c.from-residual.result c.from-residual.ensures.1 in
-    rw (p.1, p.2) (record { machine = refl; rows = (inl (counted w n m (λ i. (holds_rows w i (length m)).Fails c.in-err-end.field-0.0) c.in-err-end.ensures.answer), refl); behind = refl })
+    let p = err_from_is_err_and c.from_residual.result c.from_residual.ensures.1 in
+    rw (p.1, p.2) (record { machine = refl; rows = (inl (counted w n m (λ i. (holds_rows w i (length m)).Fails c.in_err-end.field-0.0) c.in_err-end.ensures.answer), refl); behind = refl })
 
 pub returns-then-number-self : goal.returns-then-number-self
 returns-then-number-self g c =
@@ -27,27 +27,27 @@ returns-then-number-self g c =
     let i = c.args.number in
     record {
       machine = refl;
-      rows = (counted w n m (λ j. (holds_rows w j (length m) before has_line j i).Fails (NoLine i)) (inr (c.in-ok-end.ensures.answer.0, (omega arith, refl))), refl);
+      rows = (counted w n m (λ j. (holds_rows w j (length m) before has_line j i).Fails (NoLine i)) (inr (c.in_ok-end.ensures.answer.0, (omega arith, refl))), refl);
       behind = refl;
     }
 
-pub overflow-sub-last : goal.overflow-sub-last
-overflow-sub-last g c =
-    let e = row_end c.args.number c.args.self.now.count c.row-len-width.result (omega arith) in
-    let at : c.in-ok-end.end ≡ c.args.self.now.count * c.row-len-width.result = c.in-ok-end.ensures.answer.1.0 ∙ ap (λ v. c.args.self.now.count * v) (sym c.row-len-width.ensures.value) in
+pub overflow_sub-last : goal.overflow_sub-last
+overflow_sub-last g c =
+    let e = row_end c.args.number c.args.self.now.count c.row_len-width.result (omega arith) in
+    let at : c.in_ok-end.end ≡ c.args.self.now.count * c.row_len-width.result = c.in_ok-end.ensures.answer.1.0 ∙ ap (λ v. c.args.self.now.count * v) (sym c.row_len-width.ensures.value) in
     omega (arith, e, at)
 
-pub overflow-sub-last-2 : goal.overflow-sub-last-2
-overflow-sub-last-2 g c =
-    let e = row_end c.args.number c.args.self.now.count c.row-len-width.result (omega arith) in
-    let at : c.in-ok-end.end ≡ c.args.self.now.count * c.row-len-width.result = c.in-ok-end.ensures.answer.1.0 ∙ ap (λ v. c.args.self.now.count * v) (sym c.row-len-width.ensures.value) in
+pub overflow_sub-last-2 : goal.overflow_sub-last-2
+overflow_sub-last-2 g c =
+    let e = row_end c.args.number c.args.self.now.count c.row_len-width.result (omega arith) in
+    let at : c.in_ok-end.end ≡ c.args.self.now.count * c.row_len-width.result = c.in_ok-end.ensures.answer.1.0 ∙ ap (λ v. c.args.self.now.count * v) (sym c.row_len-width.ensures.value) in
     omega (arith, e, at)
 
 pub shift-requires : goal.shift-requires
 shift-requires g c =
-    let e = row_end c.args.number c.args.self.now.count c.row-len-width.result (omega arith) in
-    let held = c.in-ok-end.ensures.answer in
-    let at : c.in-ok-end.end ≡ c.args.self.now.count * c.row-len-width.result = held.1.0 ∙ ap (λ v. c.args.self.now.count * v) (sym c.row-len-width.ensures.value) in
+    let e = row_end c.args.number c.args.self.now.count c.row_len-width.result (omega arith) in
+    let held = c.in_ok-end.ensures.answer in
+    let at : c.in_ok-end.end ≡ c.args.self.now.count * c.row_len-width.result = held.1.0 ∙ ap (λ v. c.args.self.now.count * v) (sym c.row_len-width.ensures.value) in
     omega (arith, e, at, held.0, held.1.0)
 
 pub returns : goal.returns
@@ -56,10 +56,10 @@ returns g c =
     let n = c.args.self.now.count in
     let m = c.args.memory.now in
     let i = c.args.number in
-    let v = c.row-len-width.result in
-    let wide : v ≡ w = c.row-len-width.ensures.value in
-    let held = c.in-ok-end.ensures.answer in
-    let end = c.in-ok-end.end in
+    let v = c.row_len-width.result in
+    let wide : v ≡ w = c.row_len-width.ensures.value in
+    let held = c.in_ok-end.ensures.answer in
+    let end = c.in_ok-end.end in
     let b = n - suc i in
     let whole : n ≡ i + suc b = omega arith in
     let fewer : n - 1 ≡ i + b = omega arith in

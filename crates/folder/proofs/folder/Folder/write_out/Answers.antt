@@ -14,7 +14,7 @@ returns-in-err--held g c =
     let n = c.args.self.now.count in
     let m = c.args.memory.now in
     let told = c.in-err--held.ensures.answer in
-    let p = err_from_is_err_and c.from-residual.result c.from-residual.ensures.1 in
+    let p = err_from_is_err_and c.from_residual.result c.from_residual.ensures.1 in
     rw (p.1, p.2) (record { written = inl (counted w n m (λ i. (holds_rows w i (length m)).Fails c.in-err--held.field-0.0) told); kept = refl; again = tt })
 
 pub returns : goal.returns
@@ -26,11 +26,11 @@ returns g c =
     let n = c.args.self.now.count in
     let m = c.args.memory.now in
     let place = c.args.place.now in
-    let place' = c.write-list.new.place in
-    let r = c.write-list.result in
+    let place' = c.write_list.new.place in
+    let r = c.write_list.result in
     let ls = standing w n m in
-    let wide = c.row-len.ensures.value in
-    let told = c.write-list.ensures in
+    let wide = c.row_len.ensures.value in
+    let told = c.write_list.ensures in
     let answer = subst (λ v. Answered (list_checks u (standing v n m) (length place)) (Written u (standing v n m) place place') r) wide told.answer in
     let back = subst (λ v. ReadsBack u (standing v n m) r) wide told.again in
     let held = counted w n m (λ i. (holds_rows w i (length m)).Passes) c.in-ok--held.ensures.answer.0 in
