@@ -16,5 +16,5 @@ returns g c = λ s z.
     let k = g.M.Message.kind in
     let ms = c.args.messages.now in
     let read = get_or_read ms i c.index-messages-place.result c.requires.within c.index-messages-place.is k.zero in
-    ap not (c.message-fits.ensures s z ∙ ap (λ m. fits s (k.means m)) read)
+    ap not (c.message_fits.ensures s z ∙ ap (λ m. fits s (k.means m)) read)
     ∙ sym (ap (λ b. b && not (fits s (k.means (get_or ms i k.zero)))) (lt-ltb (i % 8) (get_or c.args.lengths.now (i / 8) 0) c.if-place-lengths.false))

@@ -10,7 +10,7 @@ use Rattle.script.proofs.run.run_lines.Goals.{then-script-i-eq10+in-Some+in-defa
 
 pub loop-i-preserved : goal.loop-i-preserved
 loop-i-preserved g c =
-    let k = g.Record.Message.kind in
+    let k = g.R.Record.Message.kind in
     let u = g.R.Rules.book in
     let s = program c.args.bench.now.system in
     let bs = c.args.script.now in
@@ -44,7 +44,7 @@ loop-i-preserved g c =
 
 pub returns-in-default : goal.returns-in-default
 returns-in-default g c =
-    let k = g.Record.Message.kind in
+    let k = g.R.Record.Message.kind in
     let u = g.R.Rules.book in
     let s = program c.args.bench.now.system in
     let bs = c.args.script.now in
@@ -58,7 +58,7 @@ returns-in-default g c =
 
 pub returns-in-Err : goal.returns-in-Err
 returns-in-Err g c =
-    let k = g.Record.Message.kind in
+    let k = g.R.Record.Message.kind in
     let u = g.R.Rules.book in
     let s = program c.args.bench.now.system in
     let bs = c.args.script.now in
@@ -75,7 +75,7 @@ returns-in-Err g c =
 
 pub returns-then-start-script : goal.returns-then-start-script
 returns-then-start-script g c =
-    let k = g.Record.Message.kind in
+    let k = g.R.Record.Message.kind in
     let u = g.R.Rules.book in
     let s = program c.args.bench.now.system in
     let bs = c.args.script.now in
@@ -85,7 +85,7 @@ returns-then-start-script g c =
 
 pub returns : goal.returns
 returns g c =
-    let k = g.Record.Message.kind in
+    let k = g.R.Record.Message.kind in
     let u = g.R.Rules.book in
     let s = program c.args.bench.now.system in
     let bs = c.args.script.now in

@@ -7,7 +7,7 @@ use Rattle.script.proofs.run.run_lines.Given as goal
 
 abbrev pub invariant-loop-i : goal.invariant-loop-i
 invariant-loop-i g l =
-    let k = g.Record.Message.kind in
+    let k = g.R.Record.Message.kind in
     let u = g.R.Rules.book in
     let s = program l.initial.bench.system in
     (l.start ≤ l.i)

@@ -11,7 +11,7 @@ returns g c =
     let b = c.args.self.now in
     let ms = c.args.messages.now in
     let s = program b.system in
-    let k = g.Record.Message.kind in
+    let k = g.R.Record.Message.kind in
     let u = g.R.Rules.book in
     let z = in_range s.states s.variables s.values b.system.sized in
     let n = c.needed-needed.result - 0 in
@@ -34,7 +34,7 @@ returns-then-messages-needed g c =
     let s = program b.system in
     let u = g.R.Rules.book in
     let e = c.needed-needed.ensures.value in
-    let f = begun_short g.Record.Message.kind u s (table_of b ms) (omega arith) in
+    let f = begun_short g.R.Record.Message.kind u s (table_of b ms) (omega arith) in
     record {
       came = (ap (λ i. Err (Short i)) e ∙ sym (ap (λ o. o.answer) f), sym (ap (λ o. o.after) f));
       start = λ h. let z : ◌≡◌ {A = ℕ} 0 1 = cc in absurd (omega arith);

@@ -14,7 +14,7 @@ returns g c =
     let f : length s.states ≤ 4 = omega (arith, c.sizes.ensures.ranges.processes.1) in
     let l : length (take (n - 0) b.states) ≡ n - 0 = omega arith in
     record {
-      value = c.deed-of.ensures.value ∙ ap (λ i. deed_of s (take i b.states) c.args.number) e;
-      process = subst (λ (i : ℕ). IfSome c.deed-of.result (λ (d : Deed). d.process < i)) (l ∙ e) c.deed-of.ensures.process;
+      value = c.deed_of.ensures.value ∙ ap (λ i. deed_of s (take i b.states) c.args.number) e;
+      process = subst (λ (i : ℕ). IfSome c.deed_of.result (λ (d : Deed). d.process < i)) (l ∙ e) c.deed_of.ensures.process;
       few = f;
     }

@@ -10,5 +10,5 @@ returns g c =
     let z = in_range s.states s.variables s.values c.args.system.sized in
     record {
       system = refl;
-      start = λ ms. start_is g.Record.Message.kind g.R.Rules.book s _ (zeros_front _ z.0) (zeros_front _ z.1) (zeros_front _ z.0);
+      start = λ ms. start_is g.R.Record.Message.kind g.R.Rules.book s _ (zeros_front _ z.0) (zeros_front _ z.1) (zeros_front _ z.0);
     }

@@ -7,12 +7,12 @@ use Rattle.bench.proofs.bench.Bench.repeat.Goals as goal
 
 pub loop-i-preserved : goal.loop-i-preserved
 loop-i-preserved g c =
-    let k = g.Record.Message.kind in
+    let k = g.R.Record.Message.kind in
     let u = g.R.Rules.book in
     let s = program c.args.self.now.system in
     let t = table_of c.loop-i.self c.loop-i.messages in
     let t' = table_of c.play.new.self c.play.new.messages in
-    let told = c.in-default.ensures in
+    let told = c.in_default.ensures in
     let came = subst (λ (p : Program). Came (played k u p t c.args.number) (Ok tt) t') c.loop-i.invariant.0 told.came in (
       told.system ∙ c.loop-i.invariant.0,
       λ n e. sym (repeated_more k u s c.args.number n t t' came) ∙ c.loop-i.invariant.1 (suc n) (omega arith),
@@ -20,7 +20,7 @@ loop-i-preserved g c =
 
 pub returns-in-Err : goal.returns-in-Err
 returns-in-Err g c =
-    let k = g.Record.Message.kind in
+    let k = g.R.Record.Message.kind in
     let u = g.R.Rules.book in
     let s = program c.args.self.now.system in
     let t = table_of c.loop-i.self c.loop-i.messages in
@@ -34,7 +34,7 @@ returns-in-Err g c =
 
 pub returns : goal.returns
 returns g c =
-    let k = g.Record.Message.kind in
+    let k = g.R.Record.Message.kind in
     let u = g.R.Rules.book in
     let s = program c.args.self.now.system in
     let t = table_of c.loop-i.self c.loop-i.messages in

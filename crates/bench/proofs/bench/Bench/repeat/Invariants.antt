@@ -6,7 +6,7 @@ use Rattle.bench.proofs.bench.Bench.repeat.Given as goal
 
 abbrev pub invariant-loop-i : goal.invariant-loop-i
 invariant-loop-i g l =
-    let k = g.Record.Message.kind in
+    let k = g.R.Record.Message.kind in
     let u = g.R.Rules.book in
     let s = program l.initial.self.system in
     (program l.self.system ≡ s)

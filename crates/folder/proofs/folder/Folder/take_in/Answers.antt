@@ -11,20 +11,20 @@ use Rattle.folder.proofs.Adding.{counted}
 use Rattle.folder.proofs.Taken.{directory_fails, file_rewritten, lines_fail}
 use Rattle.folder.proofs.folder.Folder.take_in.Goals as goal
 
-pub returns-in-err--held : goal.returns-in-err--held
-returns-in-err--held g c =
+pub returns-in_err-_held : goal.returns-in_err-_held
+returns-in_err-_held g c =
     let w = (g.M.OrderedRow.kind c.args.self.now.machine).width in
     let n = c.args.self.now.count in
     let m = c.args.memory.now in
     let p = err_from_is_err_and c.from_residual.result c.from_residual.ensures.1 in
-    rw (p.1, p.2) (record { machine = refl; rows = (inl (counted w n m (λ i. (holds_rows w i (length m)).Fails c.in-err--held.field-0.0) c.in-err--held.ensures.answer), refl); behind = refl; again = tt })
+    rw (p.1, p.2) (record { machine = refl; rows = (inl (counted w n m (λ i. (holds_rows w i (length m)).Fails c.in_err-_held.field-0.0) c.in_err-_held.ensures.answer), refl); behind = refl; again = tt })
 
 pub returns-in_err-list : goal.returns-in_err-list
 returns-in_err-list g c =
     let w = (g.M.OrderedRow.kind c.args.self.now.machine).width in
     let n = c.args.self.now.count in
     let m = c.args.memory.now in
-    let held = counted w n m (λ i. (holds_rows w i (length m)).Passes) c.in-ok--held.ensures.answer.0 in
+    let held = counted w n m (λ i. (holds_rows w i (length m)).Passes) c.in_ok-_held.ensures.answer.0 in
     let wrong = directory_fails c.args.file.now c.in_err-list.field-0.0 c.in_err-list.ensures.opened in
     let exit = c.from_residual-in_err-list in
     let p = err_from_is_err_and exit.result exit.ensures.1 in
@@ -39,7 +39,7 @@ returns-in-Some g c =
     let m = c.args.memory.now in
     let file = c.args.file.now in
     let f = c.in-Some.fault in
-    let held = counted w n m (λ i. (holds_rows w i (length m)).Passes) c.in-ok--held.ensures.answer.0 in
+    let held = counted w n m (λ i. (holds_rows w i (length m)).Passes) c.in_ok-_held.ensures.answer.0 in
     let o = c.in_ok-list.ensures.opened in
     let told = subst (λ i. FirstFault u file i (Some f)) o.2 (subst (λ b. FirstFault u b c.in_ok-list.list.count (Some f)) o.1 c.in-Some.ensures) in
     record { machine = refl; rows = (inr (held, inr (o.0, inl (lines_fail u file f told))), refl); behind = refl; again = tt }
@@ -58,7 +58,7 @@ returns-then-self-count g c =
       machine = refl;
       rows = (
         counted w n m (λ i. (holds_rows w i (length m) before right_directory file before right_lines u file before has_room w (length m) i (two file 0)).Fails (Full n))
-            (inr (c.in-ok--held.ensures.answer.0, inr (o.0, inr (all, (omega (arith, c.places.ensures, o.2), refl))))),
+            (inr (c.in_ok-_held.ensures.answer.0, inr (o.0, inr (all, (omega (arith, c.places.ensures, o.2), refl))))),
         refl,
       );
       behind = refl;
@@ -103,7 +103,7 @@ returns g c =
       machine = refl;
       rows = (
         counted w n m (λ j. (holds_rows w j (length m) before right_directory file before right_lines u file before has_room w (length m) j (two file 0)).Passes)
-            (c.in-ok--held.ensures.answer.0, (o.0, (all, omega (arith, c.places.ensures, o.2)))),
+            (c.in_ok-_held.ensures.answer.0, (o.0, (all, omega (arith, c.places.ensures, o.2)))),
         (added.0, added.1, stand),
       );
       behind = ap (λ j. drop (j * w) m') total ∙ added.3 ∙ ap (λ j. drop (j * w) m) (sym total);
