@@ -13,7 +13,7 @@ invariant_of-self g c =
     let b = c.args.self.now in
     let d = c.in-Some-deed.deed in
     let y = c.in-Ok.ensures.short (b.short d.process) (part_short g.R.Rules.book (c.places_at-at.result + c.room.result - c.places_at-at.result) (drop c.places_at-at.result c.args.messages.now) (omega arith)) in
-    (get_or_set_within b.lengths d.process c.in-Ok.length 8 y b.short, tt)
+    record { short = get_or_set_within b.lengths d.process c.in-Ok.length 8 y b.short }
 
 pub returns-in-Ok : goal.returns-in-Ok
 returns-in-Ok g c =

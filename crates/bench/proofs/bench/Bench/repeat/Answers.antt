@@ -27,7 +27,7 @@ returns-in-Err g c =
     let t' = table_of c.play.new.self c.play.new.messages in
     let told = c.in-Err.ensures in
     let came = subst (λ (p : Program). Came (played k u p t c.args.number) (Err c.in-Err.fault) t') c.loop-i.invariant.0 told.came in
-    let i = c.loop-i.-i in
+    let i = c.loop-i._i in
     let n = c.args.times - i in
     let o = sym (c.loop-i.invariant.1 n (omega arith)) ∙ repeated_stop k u s c.args.number n i c.args.times c.in-Err.fault t t' (omega arith) c.loop-i-test.true came in
     record { came = (sym (ap (λ w. w.answer) o), sym (ap (λ w. w.after) o)); system = told.system ∙ c.loop-i.invariant.0 }

@@ -10,4 +10,4 @@ invariant-loop-i g l =
     let u = g.R.Rules.book in
     let s = program l.initial.self.system in
     (program l.self.system ≡ s)
-    × ((n : ℕ) → n + l.-i ≡ l.times → repeated k u s l.number n (table_of l.self l.messages) ≡ repeated k u s l.number l.times (table_of l.initial.self l.initial.messages))
+    × ((n : ℕ) → n + l._i ≡ l.times → repeated k u s l.number n (table_of l.self l.messages) ≡ repeated k u s l.number l.times (table_of l.initial.self l.initial.messages))
