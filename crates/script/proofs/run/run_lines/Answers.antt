@@ -6,7 +6,7 @@ use Rattle.bench.specs.Table.{table_of}
 use Rattle.script.specs.Scripts.{folded, lines_from, obeyed, ended}
 use Rattle.script.proofs.Reading.{lines_line, lines_byte, folded_left, folded_end, folded_unread, folded_refused, folded_more}
 use Rattle.script.proofs.run.run_lines.Goals as goal
-use Rattle.script.proofs.run.run_lines.Goals.{then-script-i-eq10+in-Some+in-default-obey, else-script-i-eq10}
+use Rattle.script.proofs.run.run_lines.Goals.{then-script-i-eq10+in-Some+in_default-obey, else-script-i-eq10}
 
 pub loop-i-preserved : goal.loop-i-preserved
 loop-i-preserved g c =
@@ -20,13 +20,13 @@ loop-i-preserved g c =
     let t = table_of c.loop-i.bench c.loop-i.messages in
     let inv = c.loop-i.invariant in
     elim c.if-script-i-eq10.branch [
-      | then-script-i-eq10+in-Some+in-default-obey w ↦
+      | then-script-i-eq10+in-Some+in_default-obey w ↦
           let b = w.bench-is in
           let m = w.messages-is in
           let a = w.start-is in
           let l = w.line-is in
           let t' = table_of w.obey.new.bench w.obey.new.messages in
-          let told = w.in-default-obey.ensures in
+          let told = w.in_default-obey.ensures in
           let came = subst (λ (p : Program). Came (obeyed k u p t w.in-Some.command) (Ok tt) t') inv.2 told.came in
           let rest = lines_from (between (i + 1) (i + 1) bs) (drop (i + 1) bs) in
           let e = ap (λ ls. folded k u s n ls t) (lines_line start i bs c.loop-i-test.true w.if-script-i-eq10.true) ∙ folded_more k u s n t (between start i bs) rest w.in-Some.command t' w.in-Some.ensures came in
@@ -42,8 +42,8 @@ loop-i-preserved g c =
           (omega arith, omega arith, ap (λ x. program x.system) b ∙ inv.2, cc)
     ]
 
-pub returns-in-default : goal.returns-in-default
-returns-in-default g c =
+pub returns-in_default : goal.returns-in_default
+returns-in_default g c =
     let k = g.R.Record.Message.kind in
     let u = g.R.Rules.book in
     let s = program c.args.bench.now.system in
@@ -53,7 +53,7 @@ returns-in-default g c =
     let n = c.loop-i.line in
     let t = table_of c.loop-i.bench c.loop-i.messages in
     let rest = lines_from (between (i + 1) (i + 1) bs) (drop (i + 1) bs) in
-    let o = sym c.loop-i.invariant.3 ∙ ap (λ ls. folded k u s n ls t) (lines_line start i bs c.loop-i-test.true c.if-script-i-eq10.true) ∙ folded_unread k u s n t (between start i bs) rest c.in-default.ensures in
+    let o = sym c.loop-i.invariant.3 ∙ ap (λ ls. folded k u s n ls t) (lines_line start i bs c.loop-i-test.true c.if-script-i-eq10.true) ∙ folded_unread k u s n t (between start i bs) rest c.in_default.ensures in
     record { came = (sym (ap (λ w. w.answer) o), sym (ap (λ w. w.after) o)); system = c.loop-i.invariant.2 }
 
 pub returns-in-Err : goal.returns-in-Err
