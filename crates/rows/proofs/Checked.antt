@@ -1,5 +1,5 @@
 -- Checks, one after another.
-use Rattle.std.proofs.Common.{ℕ, Ok, Err, Result, inr}
+use Rattle.std.proofs.Common.{Ok, Err, Result, inr}
 use Rattle.rows.specs.Checks.{Answered, Check, ◌before◌}
 use Rattle.rows.specs.declared.fault.FolderFault.{FolderFault}
 

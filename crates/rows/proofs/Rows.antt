@@ -1,5 +1,5 @@
 -- On rows that lie packed in memory.
-use Rattle.std.proofs.Common.{◌≡◌, ℕ, zero, suc, ◌+◌, ◌-◌, ◌*◌, ◌/◌, ◌<◌, ◌≤◌, min, List, [], ◌∷◌, ◌++◌, length, get_or, take, drop, sym, refl, ap, ◌∙◌, subst, append-nil, mul-le-mul_right, suc-mul, add-mul, mul-le-mul, one-mul, zero-mul, arith}
+use Rattle.std.proofs.Common.{◌≡◌, ℕ, zero, suc, ◌+◌, ◌-◌, ◌*◌, ◌/◌, ◌<◌, ◌≤◌, List, [], ◌∷◌, ◌++◌, length, get_or, take, drop, sym, refl, ap, ◌∙◌, subst, append-nil, mul-le-mul_right, suc-mul, add-mul, mul-le-mul, one-mul, zero-mul, arith}
 use Rattle.std.proofs.lemmas.Nat.{div-add-mod'}
 use Rattle.std.proofs.lemmas.List.{drop-drop, drop-append-le, take-append-le, take_at, nil_from_length, length-take-le, length-append, length-drop, take-replicate, drop-replicate}
 use Rattle.rows.specs.Checks.{places}

@@ -1,5 +1,5 @@
 -- The checks that calls make. They run in order, and the first that fails turns the call down.
-use Rattle.std.specs.Prelude.{◌≡◌, ℕ, ◌+◌, ◌*◌, ◌/◌, ◌<◌, ◌≤◌, min, Bool, true, false, cond, ◌⊎◌, List, [], length, Some, None, Ok, Err, Result}
+use Rattle.std.specs.Prelude.{◌≡◌, ℕ, ◌+◌, ◌*◌, ◌/◌, ◌<◌, ◌≤◌, min, Bool, true, false, cond, ◌⊎◌, List, length, Some, None, Ok, Err, Result}
 use Rattle.files.specs.Bytes.{two}
 use Rattle.files.specs.Directory.{dir_fault, line_of}
 use Rattle.files.specs.declared.list_fault.LineFault.{LineFault}
