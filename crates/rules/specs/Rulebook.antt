@@ -2,7 +2,7 @@
 use Rattle.std.specs.Prelude.{◌≡◌, ℕ, ◌<◌, Bool, false, cond, List, [], ◌∷◌, ◌++◌, drop, Some, None, Option, slice_set}
 use Rattle.files.specs.Program.{Program}
 use Rattle.files.specs.declared.transition.Operation.{Operation}
-use Rattle.machines.specs.Message.{Message, Queue}
+use Rattle.machines.specs.Message.{Queue}
 use Rattle.machines.specs.Config.{View, view}
 use Rattle.machines.specs.Step.{Move, transition, propagate, delete, update, Leads}
 use Rattle.queue.specs.Fifo.{Kind}

@@ -1,5 +1,4 @@
 use Rattle.std.proofs.Common.{sym, ap, ◌∙◌, arith}
-use Rattle.std.proofs.lemmas.List.{length-take}
 use Rattle.queue.specs.Fifo.{front}
 use Rattle.queue.proofs.Shifts.{front_take, none_of}
 use Rattle.queue.proofs.fifo.Queue.oldest.Goals as goal

@@ -1,5 +1,5 @@
 use Rattle.std.proofs.Common.{◌≡◌, ◌-◌, ◌++◌, length, take, drop, sym, refl, ap, ◌∙◌, arith}
-use Rattle.queue.specs.Fifo.{front, popped, advanced}
+use Rattle.queue.specs.Fifo.{front}
 use Rattle.queue.proofs.Shifts.{front_take, none_of, popped_is, popped_queue, popped_none}
 use Rattle.queue.proofs.fifo.Queue.pop.Goals as goal
 
