@@ -12,7 +12,6 @@ use Rattle.files.specs.Program.{Program}
 use Rattle.files.specs.Sizes.{right_sizes}
 use Rattle.files.specs.declared.list_fault.LineFault.{LineFault}
 use Rattle.fronts.proofs.Systems.{Known}
-use Rattle.fronts.specs.BadFronts.{bad_count_of}
 use Rattle.machines.specs.Config.{Config}
 use Rattle.machines.specs.LoadBuffers.{load_start}
 use Rattle.machines.specs.Order.{LoadBelow}
@@ -20,7 +19,6 @@ use Rattle.load_buffers.proofs.Answered.{nth_some}
 use Rattle.load_buffers.proofs.BadLaws.{bad_covered}
 use Rattle.load_buffers.specs.Below.{load_trans}
 use Rattle.load_buffers.specs.LineRows.{fault_none}
-use Rattle.load_buffers.specs.BadRows.{bad_row_of}
 use Rattle.load_buffers.specs.Configs.{config_of, load_kind}
 use Rattle.load_buffers.specs.LoadRules.{load_rules}
 use Rattle.load_buffers.specs.Reading.{line_fault, row_of}
@@ -43,7 +41,7 @@ covers s (a ∷ ls) c = is_below (config_of s a) c || covers s ls c
 -- the bad rows below number n are covered
 abbrev pub bad_rows_covered : Program → List (List ℕ) → ℕ → Bool
 bad_rows_covered s ls zero = true
-bad_rows_covered s ls (suc n) = covers s ls (config_of s (bad_row_of s n)) && bad_rows_covered s ls n
+bad_rows_covered s ls (suc n) = covers s ls (config_of s ((load_rules s).bad_row n)) && bad_rows_covered s ls n
 
 -- each step row of row a is covered
 abbrev pub step_rows_covered : Program → List (List ℕ) → List ℕ → Bool
@@ -79,13 +77,13 @@ covers_line s (a ∷ ls) c (suc i) l h = or_right (is_below (config_of s a) c) (
 uncovered : (s : Program) (ls : List (List ℕ)) (c : Config) → covers s ls c ≡ false → Uncovered (load_kind s) ls c
 uncovered s ls c e (i, (l, h)) = false≢true (sym e ∙ covers_line s ls c i l h)
 
-bad_at : (s : Program) (ls : List (List ℕ)) (n : ℕ) → bad_rows_covered s ls n ≡ true → (j : ℕ) → j < n → Covered (load_kind s) ls (config_of s (bad_row_of s j))
+bad_at : (s : Program) (ls : List (List ℕ)) (n : ℕ) → bad_rows_covered s ls n ≡ true → (j : ℕ) → j < n → Covered (load_kind s) ls (config_of s ((load_rules s).bad_row j))
 bad_at s ls zero e j l = absurd (omega arith)
 bad_at s ls (suc n) e j l =
-    let (a, b) = and_parts (covers s ls (config_of s (bad_row_of s n))) (bad_rows_covered s ls n) e in
+    let (a, b) = and_parts (covers s ls (config_of s ((load_rules s).bad_row n))) (bad_rows_covered s ls n) e in
     ⊎_elim
     (λ (h : j < n). bad_at s ls n b j h)
-    (λ (h : n ≤ j). let same : j ≡ n = omega arith in rw same (covers_true s ls (config_of s (bad_row_of s n)) a))
+    (λ (h : n ≤ j). let same : j ≡ n = omega arith in rw same (covers_true s ls (config_of s ((load_rules s).bad_row n)) a))
     (cases_lt j n)
 
 no_start : (s : Program) (ls : List (List ℕ)) → covers s ls (load_start s) ≡ false → Never (AtStart (load_kind s) (load_rules s) ls)
@@ -117,8 +115,8 @@ module _ (s : Program) (ls : List (List ℕ)) where
           no_start s (take i ls) none j (k, (c, (start, rw at under)))
 
 module _ {s : Program} (known : Known s) (ls : List (List ℕ)) (stored : AllStorable (load_rules s) ls) where
-  no_bad : bad_rows_covered s ls (bad_count_of s) ≡ true → BadOpen (load_kind s) (load_rules s) ls → ⊥
-  no_bad e = no_bad_open (load_kind s) (load_rules s) ls load_trans (bad_covered known) (bad_count_of s) (omega arith) (bad_at s ls (bad_count_of s) e)
+  no_bad : bad_rows_covered s ls (load_rules s).bad_count ≡ true → BadOpen (load_kind s) (load_rules s) ls → ⊥
+  no_bad e = no_bad_open (load_kind s) (load_rules s) ls load_trans (bad_covered s) (load_rules s).bad_count (omega arith) (bad_at s ls (load_rules s).bad_count e)
 
   -- what escapes above line i by a move is a step row with that move, which passes what each of them passes, and is not covered
   escapes : (test : StepRow → Bool) (i mv : ℕ) → every test (step_rows s (get_or ls i [])) ≡ true → LeakBy (load_kind s) (load_rules s) ls i mv
@@ -159,14 +157,14 @@ module _ {s : Program} (known : Known s) (ls : List (List ℕ)) (stored : AllSto
       let at = get_or-take n ls i [] l in
       every_at (step_rows_covered s ls) (take n ls) i (get_or ls i []) (slice_get-get_or (take n ls) i [] k ∙ ap Some at) e
 
-  pub safe : covers s ls (load_start s) ≡ false → bad_rows_covered s ls (bad_count_of s) ≡ true → every (step_rows_covered s ls) ls ≡ true
+  pub safe : covers s ls (load_start s) ≡ false → bad_rows_covered s ls (load_rules s).bad_count ≡ true → every (step_rows_covered s ls) ls ≡ true
       → Judged (load_kind s) (load_rules s) ls Safe
   safe start bad steps =
       (no_start s ls start, no_bad bad, λ i (mv, leak). no_leak i (every_at (step_rows_covered s ls) ls i (get_or ls i []) (slice_get-get_or ls i [] leak.0) steps) mv leak)
 
   pub lowest_leak_lem : (i : ℕ) → i < length ls → (j : ℕ) (r : StepRow) → slice_get (step_rows s (get_or ls i [])) j ≡ Some r → covers s ls (config_of s r.row) ≡ false
       → covers s ls (load_start s) ≡ false
-      → bad_rows_covered s ls (bad_count_of s) ≡ true
+      → bad_rows_covered s ls (load_rules s).bad_count ≡ true
       → every (step_rows_covered s ls) (take i ls) ≡ true
       → lower_rows_covered s ls r.move (get_or ls i []) ≡ true
       → Judged (load_kind s) (load_rules s) ls (Leak i r.move)

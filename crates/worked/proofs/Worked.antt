@@ -7,9 +7,6 @@ use Rattle.files.specs.Pieces.{every}
 use Rattle.files.specs.Sizes.{one_to}
 use Rattle.files.specs.Transition.{is_drawn}
 use Rattle.fronts.proofs.Systems.{Known}
-use Rattle.fronts.specs.BadFronts.{bad_count_of}
-use Rattle.fronts.specs.Digits.{numbers, written}
-use Rattle.fronts.specs.Numbered.{find, total}
 use Rattle.load_buffers.specs.Backs.{back_of}
 use Rattle.load_buffers.specs.LoadRules.{load_rules}
 use Rattle.load_buffers.specs.Reading.{spread, walk}
@@ -36,8 +33,7 @@ twelve_stored : AllStorable (load_rules one_reader) twelve_rows
 unfolding spread walk
 twelve_stored = all_stored one_reader refl twelve twelve_rows refl refl
 
-twelve_bad : bad_rows_covered one_reader twelve_rows (bad_count_of one_reader) ≡ true
-unfolding numbers written find total
+twelve_bad : bad_rows_covered one_reader twelve_rows (load_rules one_reader).bad_count ≡ true
 twelve_bad = refl
 
 twelve_steps : every (step_rows_covered one_reader twelve_rows) twelve_rows ≡ true
@@ -59,8 +55,7 @@ eleven_stored : AllStorable (load_rules one_reader) eleven
 unfolding spread walk
 eleven_stored = all_stored one_reader refl (remove twelve 8) eleven refl refl
 
-eleven_bad : bad_rows_covered one_reader eleven (bad_count_of one_reader) ≡ true
-unfolding numbers written find total
+eleven_bad : bad_rows_covered one_reader eleven (load_rules one_reader).bad_count ≡ true
 eleven_bad = refl
 
 eleven_leaks : slice_get (step_rows one_reader (get_or eleven 2 [])) 0 ≡ Some leaking
