@@ -3,7 +3,7 @@ use Rattle.std.proofs.Common.{◌≡◌, ℕ, zero, suc, ◌+◌, ◌-◌, ◌*�
 use native.Mathlib.Nat.{mul-div-le}
 use Rattle.std.proofs.lemmas.List.{append-nil}
 use Rattle.std.proofs.lemmas.Bool.Decides.{nat_tests}
-use Rattle.std.specs.Option.{option_or as first_of}
+use Rattle.std.specs.Option.{option_or}
 use Rattle.files.specs.Pieces.{decoded, first_wrong, listed, piece, piece_count, section_fault, wrong_from}
 
 -- a piece lies within the section
@@ -32,7 +32,7 @@ decoded_skip decode width i bs ps xs p e h =
 -- one more piece that is right or not
 first_more : {X : Type 0} (decode : List ℕ → Option X) (width i base : ℕ) (bs ps : List ℕ) (o : Option X) → first_wrong decode width i base bs ≡ None → ps ≡ piece width i bs → o ≡ decode ps → first_wrong decode width (suc i) base bs ≡ cond (is_some o) None (Some (base + width * i))
 first_more decode width i base bs ps o h p e =
-    ap (λ f. first_of f (cond (is_some (decode (piece width i bs))) None (Some (base + width * i)))) h
+    ap (λ f. option_or f (cond (is_some (decode (piece width i bs))) None (Some (base + width * i)))) h
     ∙ ap (λ q. cond (is_some q) None (Some (base + width * i))) (sym (e ∙ ap decode p))
 
 -- a right piece after right ones
@@ -49,7 +49,7 @@ first_stays decode width i base bs place zero n e h =
 first_stays decode width i base bs place (suc k) n e h =
     let same : n ≡ suc (k + i) = omega arith in
     ap (λ m. first_wrong decode width m base bs) same
-    ∙ ap (λ f. first_of f (cond (is_some (decode (piece width (k + i) bs))) None (Some (base + width * (k + i))))) (first_stays decode width i base bs place k (k + i) refl h)
+    ∙ ap (λ f. option_or f (cond (is_some (decode (piece width (k + i) bs))) None (Some (base + width * (k + i))))) (first_stays decode width i base bs place k (k + i) refl h)
 
 -- the first wrong piece is the section's fault
 pub first_wrong_lem : {X : Type 0} (decode : List ℕ → Option X) (width i base : ℕ) (bs ps : List ℕ) (o : Option X) (most n : ℕ) → first_wrong decode width i base bs ≡ None → ps ≡ piece width i bs → o ≡ decode ps → is_some o ≡ false → i < n → Some n ≡ piece_count width most bs → Some (base + width * i) ≡ section_fault decode width most base bs

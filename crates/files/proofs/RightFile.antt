@@ -3,7 +3,7 @@ use Rattle.std.proofs.Common.{◌≡◌, ℕ, zero, suc, ◌/◌, ◌≤◌, Boo
 use Rattle.std.proofs.lemmas.List.{length-append, length-drop}
 use Rattle.std.proofs.lemmas.Bool.{and_from, and_parts}
 use Rattle.std.proofs.lemmas.Bool.Decides.{nat_tests}
-use Rattle.std.specs.Option.{option_map, option_or as first_of}
+use Rattle.std.specs.Option.{option_map, option_or}
 use Rattle.files.specs.Bytes.{two}
 use Rattle.files.specs.Pieces.{checked, decoded, every, listed, piece, section_fault}
 use Rattle.files.specs.ReadSystem.{patterns_fault, system_fault, transitions_fault}
@@ -12,7 +12,7 @@ use Rattle.files.specs.Sizes.{counts_fault, right_sizes, sizes_fault}
 use Rattle.files.specs.declared.system_fault.SystemFault.TheVariants.{Sections, Size, Transition, Pattern}
 use Rattle.files.proofs.StateCounts.{counts_right}
 
-four : (a b c d : Option ℕ) → first_of (option_map Sections a) (first_of (option_map Size b) (first_of (option_map Transition c) (option_map Pattern d))) ≡ None → (a ≡ None) × (b ≡ None) × (c ≡ None) × (d ≡ None)
+four : (a b c d : Option ℕ) → option_or (option_map Sections a) (option_or (option_map Size b) (option_or (option_map Transition c) (option_map Pattern d))) ≡ None → (a ≡ None) × (b ≡ None) × (c ≡ None) × (d ≡ None)
 four (Some n) b c d h = (cc, cc, cc, cc)
 four None (Some n) c d h = (refl, cc, cc, cc)
 four None None (Some n) d h = (refl, refl, cc, cc)

@@ -1,6 +1,6 @@
 -- A section that is a row of pieces of equal width, each of which says one thing or is wrong.
 use Rattle.std.specs.Prelude.{◌≡◌, ℕ, zero, suc, ◌+◌, ◌*◌, ◌/◌, ◌%◌, Bool, true, cond, ◌&&◌, List, [], ◌∷◌, ◌++◌, length, take, drop, is_some, Some, None, Ok, Err, vec_items, Option, Result, Vec, ◌==◌, nat_le}
-use Rattle.std.specs.Option.{option_or as first_of}
+use Rattle.std.specs.Option.{option_or}
 use Rattle.std.specs.declared.alloc.Global.{Global}
 use Rattle.files.specs.declared.system_fault.SystemFault.{SystemFault}
 use Rattle.files.specs.declared.system_fault.SystemFault.TheVariants.{Memory}
@@ -35,7 +35,7 @@ decoded decode width (suc n) bs = decoded decode width n bs ++ listed (decode (p
 -- the place of the first wrong piece among the first n, in a section at `base`
 abbrev pub first_wrong : {X : Type 0} → (List ℕ → Option X) → ℕ → ℕ → ℕ → List ℕ → Option ℕ
 first_wrong decode width zero base bs = None
-first_wrong decode width (suc n) base bs = first_of (first_wrong decode width n base bs) (cond (is_some (decode (piece width n bs))) None (Some (base + width * n)))
+first_wrong decode width (suc n) base bs = option_or (first_wrong decode width n base bs) (cond (is_some (decode (piece width n bs))) None (Some (base + width * n)))
 
 abbrev pub wrong_from : {X : Type 0} → Option ℕ → (List ℕ → Option X) → ℕ → ℕ → List ℕ → Option ℕ
 wrong_from None decode width base bs = Some base

@@ -1,6 +1,6 @@
 -- What the reader of system files answers.
 use Rattle.std.specs.Prelude.{◌≡◌, ℕ, ◌/◌, List, length, drop, Some, None, Ok, Err, Option, Result, slice_index}
-use Rattle.std.specs.Option.{option_map, option_or as first_of}
+use Rattle.std.specs.Option.{option_map, option_or}
 use Rattle.files.specs.Bytes.{two}
 use Rattle.files.specs.Pattern.{pattern_of}
 use Rattle.files.specs.Pieces.{decoded, section_fault}
@@ -34,9 +34,9 @@ patterns_fault bs = section_fault (pattern_of (states_in bs)) (length (states_in
 -- the first fault of a file
 abbrev pub system_fault : List ℕ → Option SystemFault
 system_fault bs =
-    first_of (option_map Sections (pairs_fault bs))
-    (first_of (option_map Size (sizes_fault (section 0 bs)))
-    (first_of (option_map Transition (transitions_fault bs)) (option_map Pattern (patterns_fault bs))))
+    option_or (option_map Sections (pairs_fault bs))
+    (option_or (option_map Size (sizes_fault (section 0 bs)))
+    (option_or (option_map Transition (transitions_fault bs)) (option_map Pattern (patterns_fault bs))))
 
 -- what a right file says
 abbrev pub program_of : List ℕ → Program

@@ -1,7 +1,7 @@
 // The three sections of a system file, by the pairs of offset and length that open it.
 ghost use Rattle.std.specs.Prelude.{◌≡◌, ◌+◌, ◌*◌, ◌<◌, length, None};
 ghost use Rattle.files.specs.Bytes.{two};
-ghost use Rattle.files.specs.Sections.{pairs_fault, section as sectionOf};
+ghost use Rattle.files.specs.Sections.{pairs_fault, section as section_of};
 
 use crate::bytes::two_at;
 
@@ -35,7 +35,7 @@ pub(crate) fn pairs_fault(bytes: &[u8]) -> Option<usize>
 // The section of a number, in a file whose pairs are right.
 pub(crate) fn section<'a>(bytes: &'a [u8], number: usize) -> &'a [u8]
     requires { (pairs_fault bytes.now ≡ None) × (number < 3) }
-    ensures bytes { result.now ≡ sectionOf number bytes.now }
+    ensures bytes { result.now ≡ section_of number bytes.now }
     ensures whole { length result.now ≡ two bytes.now (4 * number + 2) }
     ensures short { length result.now < 65536 }
 {

@@ -5,7 +5,7 @@ use Rattle.std.proofs.ByRecursion.{All-append}
 use Rattle.std.proofs.lemmas.List.{drop_at, drop-drop, get_or-take, length-append, length-drop, length-take, length-take-le, take-append-drop, take_at}
 use Rattle.std.proofs.lemmas.Bool.{and_parts, cases_lt, lt-ltb, ltb-true}
 use Rattle.std.proofs.lemmas.Bool.Decides.{nat_tests}
-use Rattle.std.specs.List.{AllByRecursion as All}
+use Rattle.std.specs.List.{AllByRecursion}
 use Rattle.files.specs.Pieces.{every}
 use Rattle.files.specs.Program.{Program, sizes_of}
 use Rattle.files.specs.Sizes.{one_to, right_sizes}
@@ -28,7 +28,7 @@ First t = t 0 ≡ true
 one_open : (n : ℕ) → one_to 16 n ≡ true → nat_lt 0 n ≡ true
 one_open n h = grind (arith, nat_tests)
 
-states_open : (ns : List ℕ) → every (one_to 16) ns ≡ true → All First (map below ns)
+states_open : (ns : List ℕ) → every (one_to 16) ns ≡ true → AllByRecursion First (map below ns)
 states_open [] e = tt
 states_open (n ∷ ns) e = let p = and_parts (one_to 16 n) (every (one_to 16) ns) e in (one_open n p.0, states_open ns p.1)
 
@@ -116,7 +116,7 @@ module _ (s : Program) where
 
   -- every limit is at least 1
   module _ (right : right_sizes s.states s.variables s.values ≡ true) where
-    opens_all : All Opens (map one (tests s) ++ queues s)
+    opens_all : AllByRecursion Opens (map one (tests s) ++ queues s)
     opens_all =
         let e : every (one_to 16) s.states ≡ true = grind (arith, nat_tests) in
         let v : ltb 0 s.values ≡ true = grind (arith, nat_tests) in

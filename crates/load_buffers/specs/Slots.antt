@@ -3,7 +3,7 @@ use Rattle.std.specs.Prelude.{◌≡◌, ℕ, zero, suc, ◌+◌, ◌<◌, Bool,
 use Rattle.std.proofs.Common.{arith}
 use Rattle.std.proofs.ByRecursion.{All-append}
 use Rattle.std.proofs.lemmas.Bool.{both_ways}
-use Rattle.std.specs.List.{AllByRecursion as All}
+use Rattle.std.specs.List.{AllByRecursion}
 use Rattle.files.specs.declared.list_fault.LineFault.{LineFault}
 use Rattle.files.specs.declared.list_fault.LineFault.TheVariants.{Byte, Early}
 use Rattle.machines.specs.Kind.{IsLine, LineAnswer, Rules}
@@ -21,21 +21,21 @@ abbrev pub Opens : Slot → Type 0
 Opens (one test) = test 0 ≡ true
 Opens (queue z) = is_message z 0 ≡ true
 
-pub opens_tests : (ts : List (ℕ → Bool)) → All (λ t. t 0 ≡ true) ts → All Opens (map one ts)
+pub opens_tests : (ts : List (ℕ → Bool)) → AllByRecursion (λ t. t 0 ≡ true) ts → AllByRecursion Opens (map one ts)
 opens_tests [] a = tt
 opens_tests (t ∷ ts) a = (a.0, opens_tests ts a.1)
 
-pub all_same : {X : Type 0} (P : X → Type 0) (n : ℕ) (x : X) → P x → All P (replicate n x)
+pub all_same : {X : Type 0} (P : X → Type 0) (n : ℕ) (x : X) → P x → AllByRecursion P (replicate n x)
 all_same P zero x h = tt
 all_same P (suc n) x h = (h, all_same P n x h)
 
-opens_after : (s : Slot) (b : ℕ) (ss : List Slot) → Opens s → All Opens ss → All Opens (after s b ss)
+opens_after : (s : Slot) (b : ℕ) (ss : List Slot) → Opens s → AllByRecursion Opens ss → AllByRecursion Opens (after s b ss)
 opens_after (one test) b ss h a = a
 opens_after (queue z) b ss h a =
     All-append Opens (map one (replicate b (is_message z))) ss (opens_tests (replicate b (is_message z)) (all_same (λ t. t 0 ≡ true) b (is_message z) h)) a
 
 -- zeros fill what is left
-zeros_fill : (ss : List Slot) → All Opens ss → Reads ss (replicate (length ss) 0)
+zeros_fill : (ss : List Slot) → AllByRecursion Opens ss → Reads ss (replicate (length ss) 0)
 zeros_fill [] a = tt
 zeros_fill (one test ∷ ss) a = (a.0, zeros_fill ss a.1)
 zeros_fill (queue z ∷ ss) a = (refl, zeros_fill ss a.1)
@@ -47,7 +47,7 @@ SlotAnswer us l i (Some (Byte j)) =
     (k : ℕ) × ((j ≡ i + k) × (k < length l) × ((rest : List ℕ) × Reads us (take k l ++ rest)) × ((rest : List ℕ) → Reads us (take (suc k) l ++ rest) → ⊥))
 SlotAnswer us l i (Some (Early n)) = (n ≡ i + length l) × ((rest : List ℕ) × Reads us (l ++ rest)) × (Reads us l → ⊥)
 
-answer_more : (s : Slot) (ss : List Slot) (b : ℕ) (l : List ℕ) (i : ℕ) (t : Bool) (o : Option LineFault) → passes s b ≡ t → All Opens (s ∷ ss) → SlotAnswer (after s b ss) l (i + 1) o → SlotAnswer (s ∷ ss) (b ∷ l) i (cond t o (Some (Byte i)))
+answer_more : (s : Slot) (ss : List Slot) (b : ℕ) (l : List ℕ) (i : ℕ) (t : Bool) (o : Option LineFault) → passes s b ≡ t → AllByRecursion Opens (s ∷ ss) → SlotAnswer (after s b ss) l (i + 1) o → SlotAnswer (s ∷ ss) (b ∷ l) i (cond t o (Some (Byte i)))
 answer_more s ss b l i true None e a h = (e, h)
 answer_more s ss b l i true (Some (Byte j)) e a h =
     let k = h.0 in
@@ -57,7 +57,7 @@ answer_more s ss b l i true (Some (Early n)) e a h = (omega arith, (h.1.0, (e, h
 answer_more s ss b l i false o e a h =
     (0, (omega arith, omega arith, (replicate (length (s ∷ ss)) 0, zeros_fill (s ∷ ss) a), λ rest r. both_ways (passes s b) e r.0))
 
-walk_answer : (us : List Slot) (l : List ℕ) (i : ℕ) → All Opens us → SlotAnswer us l i (walk i us l)
+walk_answer : (us : List Slot) (l : List ℕ) (i : ℕ) → AllByRecursion Opens us → SlotAnswer us l i (walk i us l)
 unfolding walk
 walk_answer [] [] i a = tt
 walk_answer [] (b ∷ l) i a = (0, (omega arith, omega arith, ([], tt), λ rest r. r))
@@ -77,5 +77,5 @@ module _ (u : Rules) (us : List Slot) (l : List ℕ) (to : (x : List ℕ) → Is
       rw (n, e) (f.1, (f.2.0, from (take k l ++ f.2.0) f.2.1), λ g. f.3 g.0 (to (take (suc k) l ++ g.0) g.1))
   as_line (Some (Early n)) h = (omega (arith, h.0), (h.1.0, from (l ++ h.1.0) h.1.1), λ g. h.2 (to l g))
 
-  pub line_answer : All Opens us → LineAnswer u l (walk 0 us l)
+  pub line_answer : AllByRecursion Opens us → LineAnswer u l (walk 0 us l)
   line_answer a = as_line (walk 0 us l) (walk_answer us l 0 a)

@@ -1,7 +1,7 @@
 -- Every store-buffer run is matched by a load-buffer run.
 use Rattle.std.proofs.Common.{◌≡◌, ℕ, zero, suc, ◌<◌, ◌≤◌, List, [], length, get_or, set, replicate, sym, refl, ◌∙◌, arith}
 use lib.ListN.{get_or-replicate}
-use Rattle.std.specs.List.{AllByRecursion as All}
+use Rattle.std.specs.List.{AllByRecursion}
 use Rattle.std.proofs.ByRecursion.{All-from_get_or}
 use Rattle.std.proofs.lemmas.List.{ext_get_or, get_or-set_other}
 use Rattle.files.specs.Program.{Program}
@@ -87,7 +87,7 @@ module _ (s : Program) where
         let e = (traced_sized b.run).states in
         ext_get_or 0 b.d.states c.states (e ∙ sym (traced_sized run).states) (λ p l. let h : p < n = rw e at l in ((b.each p h).level h).0)
 
-    no_messages : All (λ q. q ≡ []) b.d.queues
+    no_messages : AllByRecursion (λ q. q ≡ []) b.d.queues
     no_messages =
         All-from_get_or (λ q. q ≡ []) b.d.queues [] (λ p l. let h : p < n = rw (traced_sized b.run).queues at l in ((b.each p h).level h).1)
 

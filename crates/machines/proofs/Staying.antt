@@ -1,7 +1,7 @@
 -- A load-buffer run from the start stays among the configurations of the program.
 use Rattle.std.proofs.Common.{ℕ, zero, suc, ◌<◌, ◌≤◌, List, [], ◌∷◌, length, get_or, replicate}
 use lib.ListN.{length-replicate}
-use Rattle.std.specs.List.{AllByRecursion as All}
+use Rattle.std.specs.List.{AllByRecursion}
 use Rattle.std.proofs.ByRecursion.{All-append}
 use Rattle.std.proofs.lemmas.List.{get_or-replicate}
 use Rattle.files.specs.Program.{Program}
@@ -14,7 +14,7 @@ use Rattle.machines.specs.Step.{Move, Leads, moves, Runs, stay, ◌then◌}
 use Rattle.machines.proofs.Configs.{in_view, in_range}
 use Rattle.machines.proofs.Views.{Valued, InView, drawn, valued_set}
 
-left : {s : Program} {p t q q' : ℕ} {o : Operation} {mem : List ℕ} {b : Queue} → AllDrawn s → Leads s t p q o q' → Valued s mem → All (Fits s) b
+left : {s : Program} {p t q q' : ℕ} {o : Operation} {mem : List ℕ} {b : Queue} → AllDrawn s → Leads s t p q o q' → Valued s mem → AllByRecursion (Fits s) b
     → InView s p (view mem q' b)
 left all lead h fits = record { state = (drawn all lead).after; memory = h; messages = fits }
 
@@ -48,7 +48,7 @@ pub run_stays : {s : Program} {c d : Config} {ks : List ℕ} → AllDrawn s → 
 run_stays all z stay = (stay, z)
 run_stays all z (r then s) = let (run, here) = run_stays all z r in (run then (here, s), load_stays all here s)
 
-all_empty : (s : Program) (n : ℕ) → All (All (Fits s)) (replicate n [])
+all_empty : (s : Program) (n : ℕ) → AllByRecursion (AllByRecursion (Fits s)) (replicate n [])
 all_empty s zero = tt
 all_empty s (suc n) = (tt, all_empty s n)
 

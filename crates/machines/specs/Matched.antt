@@ -1,6 +1,6 @@
 -- Whatever a store-buffer run reaches, a load-buffer run reaches too, with empty queues.
 use Rattle.std.specs.Prelude.{◌≡◌, ℕ, List, []}
-use Rattle.std.specs.List.{AllByRecursion as All}
+use Rattle.std.specs.List.{AllByRecursion}
 use Rattle.files.specs.Program.{Program}
 use Rattle.machines.specs.Config.{Config}
 use Rattle.machines.specs.Step.{Run, Traced}
@@ -11,7 +11,7 @@ use Rattle.machines.specs.LoadBuffers.{LoadRule, LoadStep, load_start, LoadBad}
 abbrev pub StoreTraced : Program → Type 0
 StoreTraced s =
     (c : Config) (made : List (List ℕ)) → Traced s (StoreRule s) (store_start s) made c
-    → (d : Config) × Traced s (LoadRule s) (load_start s) made d × (d.states ≡ c.states) × All (λ b. b ≡ []) d.queues
+    → (d : Config) × Traced s (LoadRule s) (load_start s) made d × (d.states ≡ c.states) × AllByRecursion (λ b. b ≡ []) d.queues
 
 -- so if a store-buffer run ends badly, with anything still queued, then some load-buffer run does
 abbrev pub StoreMatched : Program → Type 0

@@ -1,6 +1,6 @@
 // What the rules of the machines share.
 ghost use Rattle.std.specs.Prelude.{◌≡◌, map, take, slice_index};
-ghost use Rattle.rules.specs.Memory.{still as noEffect, exchanged, is_empty};
+ghost use Rattle.rules.specs.Memory.{still as no_effect, exchanged, is_empty};
 
 use crate::effect::{Change, Effect};
 use queue::{Message, Queue};
@@ -15,7 +15,7 @@ pub(crate) fn value_of(memory: &[u8], variable: u8) -> u8
 
 // Nothing but the state changes.
 pub(crate) fn still<M>() -> Effect<M>
-    ensures { result ≡ noEffect }
+    ensures { result ≡ no_effect }
 {
     Effect {
         write: None,

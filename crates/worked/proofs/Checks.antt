@@ -5,7 +5,7 @@ use Rattle.std.proofs.ByRecursion.{All-get_or}
 use Rattle.std.proofs.lemmas.List.{get_or-take, length-take}
 use Rattle.std.proofs.lemmas.Option.{slice_get-get_or}
 use Rattle.std.proofs.lemmas.Bool.{and_parts, cases_lt, leb-true, or_cases, or_left, or_right}
-use Rattle.std.specs.List.{AllByRecursion as All, slice_get}
+use Rattle.std.specs.List.{AllByRecursion, slice_get}
 use Rattle.files.proofs.Invariant.{every_at}
 use Rattle.files.specs.Pieces.{every}
 use Rattle.files.specs.Program.{Program}
@@ -91,7 +91,7 @@ no_start s ls e j (l, (c, (start, h))) = uncovered s ls (load_start s) e (j, (l,
 
 -- the rows of lines are storable
 lines_stored : (s : Program) → right_sizes s.states s.variables s.values ≡ true → (lines : List (List ℕ)) → every (is_line s) lines ≡ true
-    → All (Storable s) (map (row_of s) lines)
+    → AllByRecursion (Storable s) (map (row_of s) lines)
 lines_stored s right [] e = tt
 lines_stored s right (l ∷ lines) e =
     let (a, b) = and_parts (is_line s l) (every (is_line s) lines) e in

@@ -2,7 +2,7 @@
 use Rattle.std.proofs.Common.{◌≡◌, ℕ, Bool, true, false, cond, not, ◌&&◌, ◌||◌, eqb, List, [], ◌∷◌, refl, ⊎_elim, arith}
 use mathlib.Core.Bool.{false≢true}
 use Rattle.std.proofs.lemmas.Bool.{and_from, and_parts, eq-eqb, eqb-true, not-true, not_from_false, or_cases, or_left, or_right}
-use Rattle.std.proofs.lemmas.Bool.Decides.{nat_tests as tests}
+use Rattle.std.proofs.lemmas.Bool.Decides.{nat_tests}
 use Rattle.std.specs.List.{AllZip}
 use Rattle.machines.proofs.Literal.{below_from_walk, walk_from_below}
 use Rattle.machines.proofs.Walk.{Walk, end, keep, omit}
@@ -34,10 +34,10 @@ abbrev same_message : Message → Message → Bool
 same_message m n = cond m.own n.own (not n.own) && (eqb m.variable n.variable && eqb m.value n.value)
 
 message_true : (m n : Message) → same_message m n ≡ true → m ≡ n
-message_true m n e = grind (arith, tests)
+message_true m n e = grind (arith, nat_tests)
 
 message_same : (m : Message) → same_message m m ≡ true
-message_same m = grind (arith, tests)
+message_same m = grind (arith, nat_tests)
 
 abbrev walks : Queue → Queue → Bool
 walks [] [] = true
