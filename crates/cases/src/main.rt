@@ -1,50 +1,26 @@
-// Runs the cases of each text, and says where an answer is not the expected one.
+// Judges the cases of cases.txt, and says where an answer is not the expected one.
 #![tactic(auto)]
 
 mod case;
-mod reply;
-mod request;
-mod run;
-mod session;
 
 use case::Case;
-use run::run_case;
+use report::check;
 use std::fs;
 
-const TEXTS: [&str; 6] = [
-    "check_load",
-    "check_plain",
-    "grow_load",
-    "grow_plain",
-    "session_load",
-    "session_plain",
-];
-
-fn print_lines(rt: &HostRuntime, lines: &[String]) -> anyhow::Result<()> {
-    for line in lines {
-        println!(rt; "{line}")?;
-    }
-    Ok(())
-}
-
-// Whether the case has the expected answers; prints both where they differ.
+// Whether the check prints what the case expects.
 fn agrees(rt: &HostRuntime, case: &Case) -> anyhow::Result<bool> {
-    let lines = run_case(rt.alloc(), case)?;
-    if case.agrees(lines.as_slice()) {
+    let outcome = check(rt.alloc(), case.system.as_slice(), case.list.as_slice())?;
+    let printed = format!(in rt.alloc(); "{outcome}\n")?;
+    if printed.as_str() == case.expected.as_str() {
         return Ok(true);
     }
     let name = case.name.as_str();
-    println!(rt; "{name} differs:")?;
-    print_lines(rt, lines.as_slice())?;
-    println!(rt; "expected:")?;
-    print_lines(rt, case.expected.as_slice())?;
+    println!(rt; "{name} differs:\n{printed}")?;
     Ok(false)
 }
 
-// Runs the cases of one text.
-fn run_text(rt: &HostRuntime, name: &str) -> anyhow::Result<()> {
-    let path = format!(in rt.alloc(); "{name}.txt")?;
-    let text = fs::read_to_string(rt, path.as_str())?;
+fn run(rt: &HostRuntime) -> anyhow::Result<()> {
+    let text = fs::read_to_string(rt, "cases.txt")?;
     let mut case = Case::new(rt.alloc());
     let mut agreeing = 0usize;
     let mut count = 0usize;
@@ -59,17 +35,10 @@ fn run_text(rt: &HostRuntime, name: &str) -> anyhow::Result<()> {
         }
         case = Case::new(rt.alloc());
     }
-    println!(rt; "{name}: {count} cases, {agreeing} agree")?;
-    Ok(())
-}
-
-fn run_texts(rt: &HostRuntime) -> anyhow::Result<()> {
-    for name in TEXTS {
-        run_text(rt, name)?;
-    }
+    println!(rt; "{count} cases, {agreeing} agree")?;
     Ok(())
 }
 
 fn main(rt: HostRuntime) -> anyhow::Result<()> {
-    run_texts(&rt)
+    run(&rt)
 }
