@@ -53,7 +53,7 @@ fn nine_load_messages(rt: HostRuntime) -> Result<(), Fail> {
     let mut bench = Bench::new(LoadBuffers, writer(rt.alloc())?);
     let mut records = [NONE; 8];
     assert_eq!(rt; of_load(&mut bench, &mut records, &NINE[0..32]), None);
-    assert!(rt; bench.look().lengths == [8]);
+    assert!(rt; bench.look().lengths == [8].as_slice());
     assert_eq!(rt;
         of_load(&mut bench, &mut records, b"t 0\n"),
         part_four(15, 0)
@@ -62,9 +62,9 @@ fn nine_load_messages(rt: HostRuntime) -> Result<(), Fail> {
         of_load(&mut bench, &mut records, b"p 0 0\n"),
         part_four(15, 0)
     );
-    assert!(rt; bench.look().lengths == [8] && records[7].own);
+    assert!(rt; bench.look().lengths == [8].as_slice() && records[7].own);
     assert_eq!(rt; of_load(&mut bench, &mut records, b"d 0\nt 0\na 0\n"), None);
-    assert!(rt; bench.look().lengths == [0] && bench.look().memory == [1]);
+    assert!(rt; bench.look().lengths == [0].as_slice() && bench.look().memory == [1].as_slice());
     assert!(rt; !records[0].own && records[0].value == 0);
     Ok(())
 }
@@ -82,9 +82,9 @@ fn nine_stores(rt: HostRuntime) -> Result<(), Fail> {
     };
     assert!(rt; stop.line == 8);
     assert_eq!(rt; Some(stop.fault.refusal()), part_four(15, 0));
-    assert!(rt; bench.look().memory == [0] && records[8].value == 0);
+    assert!(rt; bench.look().memory == [0].as_slice() && records[8].value == 0);
     assert!(rt; run_script(&mut bench, &mut records, b"u 0\na 0\n").is_ok());
-    assert!(rt; bench.look().lengths == [0] && bench.look().memory == [1]);
+    assert!(rt; bench.look().lengths == [0].as_slice() && bench.look().memory == [1].as_slice());
     Ok(())
 }
 
@@ -148,12 +148,12 @@ fn unreadable_lines(rt: HostRuntime) -> Result<(), Fail> {
         of_load(&mut bench, &mut records, b"t 0\n\n"),
         part_four(13, 1)
     );
-    assert!(rt; bench.look().lengths == [1]);
+    assert!(rt; bench.look().lengths == [1].as_slice());
     assert_eq!(rt;
         of_load(&mut bench, &mut records, b"t 0\nt 0"),
         part_four(13, 1)
     );
-    assert!(rt; bench.look().lengths == [2]);
+    assert!(rt; bench.look().lengths == [2].as_slice());
     assert_eq!(rt;
         of_load(&mut bench, &mut records, b"t 0 \n"),
         part_four(13, 0)
@@ -166,7 +166,7 @@ fn plain_needs_no_records(rt: HostRuntime) -> Result<(), Fail> {
     let mut bench = Bench::new(Plain, writer(rt.alloc())?);
     let mut records = [NONE; 0];
     assert!(rt; run_script(&mut bench, &mut records, b"t 0\na 0\n").is_ok());
-    assert!(rt; bench.look().lengths == [0] && bench.look().memory == [1]);
+    assert!(rt; bench.look().lengths == [0].as_slice() && bench.look().memory == [1].as_slice());
     let Err(stop) = run_script(&mut bench, &mut records, b"a 1\n") else {
         return Err(Fail::new("a process too many"));
     };
