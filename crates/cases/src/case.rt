@@ -1,6 +1,6 @@
 // A case: its two files, and what the check is expected to print.
+use crate::hex::decode;
 use anyhow::anyhow;
-use console::decode;
 use std::alloc::Global;
 
 #[derive(Drop)]

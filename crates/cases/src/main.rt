@@ -2,6 +2,7 @@
 #![tactic(auto)]
 
 mod case;
+mod hex;
 
 use case::Case;
 use report::check;
