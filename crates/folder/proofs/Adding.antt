@@ -1,16 +1,18 @@
 -- Rows that come behind those that stand.
-use Rattle.std.proofs.Common.{◌≡◌, ℕ, zero, suc, ◌+◌, ◌-◌, ◌*◌, ◌≤◌, Bool, true, false, List, [], ◌∷◌, ◌++◌, length, take, drop, MatchBool, sym, refl, ap, ◌∙◌, subst, append_assoc, append-nil, add-mul, one-mul, zero-mul, arith}
+use Rattle.std.proofs.Common.{◌≡◌, ℕ, zero, suc, ◌+◌, ◌-◌, ◌*◌, ◌<◌, ◌≤◌, Bool, true, false, List, [], ◌∷◌, ◌++◌, length, get_or, take, drop, MatchBool, sym, refl, ap, ◌∙◌, subst, append_assoc, append-nil, add-mul, one-mul, arith}
 use borrow.Rule.Slice.PartMut.{put_mid}
-use Rattle.std.proofs.lemmas.List.Elements.{AllZip-push}
+use Rattle.std.proofs.lemmas.List.Elements.{AllZip-get_or, AllZip-push, length_all_zip}
 use Rattle.std.proofs.lemmas.List.{drop-drop, length-drop, length-take-le, take-append-drop}
 use Rattle.std.proofs.lemmas.Slice.{drop-put_mid}
 use Rattle.std.specs.List.{AllZip}
 use Rattle.files.specs.Directory.{line_of, lines_from}
+use Rattle.files.proofs.Writes.{length_lines}
 use Rattle.machines.specs.Kind.{Kind, Rules, IsLine, LineRead, LineUnread}
 use Rattle.rows.specs.Standing.{standing}
 use Rattle.rows.proofs.Rows.{standing_append, standing_front, standing_length, standing_one}
 use Rattle.rows.specs.Listing.{RowOf}
-use Rattle.folder.specs.Taking.{Added}
+use Rattle.folder.specs.Answers.{Added}
+use Rattle.folder.specs.Taking.{LinesAdded}
 
 -- what holds of the count holds of the number of rows
 pub counted : (w n : ℕ) (m : List ℕ) (P : ℕ → Type 0) → P n → P (length (standing w n m))
@@ -55,16 +57,23 @@ lines_more (suc k) j bs =
     let f : j + 1 + k ≡ j + suc k = omega arith in
     ap (λ i. lines_from i j bs) e ∙ ap (λ q. line_of bs j ∷ q) (lines_more k (j + 1) bs) ∙ ap (λ i. line_of bs j ∷ (lines_from k (j + 1) bs ++ line_of bs i ∷ [])) f
 
+-- line i of a file, among all its lines
+pub line_at : (n j i : ℕ) (bs : List ℕ) → i < n → get_or (lines_from n j bs) i [] ≡ line_of bs (j + i)
+unfolding lines_from
+line_at zero j i bs h = absurd (omega arith)
+line_at (suc n) j zero bs h = ap (line_of bs) (omega arith)
+line_at (suc n) j (suc i) bs h = line_at n (j + 1) i bs (omega arith) ∙ ap (line_of bs) (omega arith)
+
 module _ (k : Kind) (u : Rules) (file : List ℕ) (n : ℕ) (m : List ℕ) where
-  pub added_none : Added k u file n 0 m m
+  pub added_none : LinesAdded k u file n 0 m m
   unfolding lines_from
   added_none =
       let e : n + 0 ≡ n = omega arith in
       ([], tt, ap (λ i. standing k.width i m) e ∙ sym (append-nil _), refl)
 
   -- the row of line i at its place
-  pub added_more : (i v : ℕ) (l row : List ℕ) → v ≡ k.width → (n + i) * v + v ≤ length l → length row ≡ k.width → RowOf u (line_of file i) row → Added k u file n i m l
-      → Added k u file n (i + 1) m (put_mid ((n + i) * v) ((n + i) * v + v - (n + i) * v) l row)
+  pub added_more : (i v : ℕ) (l row : List ℕ) → v ≡ k.width → (n + i) * v + v ≤ length l → length row ≡ k.width → RowOf u (line_of file i) row → LinesAdded k u file n i m l
+      → LinesAdded k u file n (i + 1) m (put_mid ((n + i) * v) ((n + i) * v + v - (n + i) * v) l row)
   added_more i v l row ev room wide is (rows, each, stand, behind) =
       let w = k.width in
       let at = (n + i) * v in
@@ -79,3 +88,16 @@ module _ (k : Kind) (u : Rules) (file : List ℕ) (n : ℕ) (m : List ℕ) where
         ap (λ q. standing w q x) sum ∙ row_stands w (n + i) at v l row place ev fits wide ∙ ap (λ q. q ++ row ∷ []) stand ∙ append_assoc (standing w n m) rows (row ∷ []),
         ap (λ q. drop (q * w) x) sum ∙ row_kept w (n + i) at v l row place ev fits wide ∙ sym (deeper l) ∙ ap (drop w) behind ∙ deeper m ∙ ap (λ q. drop (q * w) m) (sym sum),
       )
+
+  -- and the lines by their numbers
+  pub added_each : (i : ℕ) (m' : List ℕ) → LinesAdded k u file n i m m' → Added k u file n i m m'
+  added_each i m' (rows, each, stand, behind) = (
+    rows,
+    sym (length_all_zip (RowOf u) (lines_from i 0 file) rows each) ∙ length_lines i 0 file,
+    λ j h.
+        let r = AllZip-get_or (RowOf u) (lines_from i 0 file) rows j [] [] each (omega (arith, length_lines i 0 file)) in
+        let first : 0 + j ≡ j = omega arith in
+        (r.0, subst (λ l. l ≡ u.line_of (get_or rows j [])) (line_at i 0 j file h ∙ ap (line_of file) first) r.1),
+    stand,
+    behind,
+  )

@@ -1,4 +1,5 @@
 pub mod Adding
+pub mod Answers
 pub mod Grown
 pub mod Retaken
 pub mod Struck

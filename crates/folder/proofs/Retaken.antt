@@ -1,9 +1,9 @@
 -- A file that was written out is taken in again.
-use Rattle.std.proofs.Common.{◌≡◌, ℕ, zero, suc, ◌+◌, ◌<◌, List, [], ◌∷◌, map, length, get_or, take, drop, Some, None, Ok, Err, Result, sym, refl, ap, ◌∙◌, subst, inl, inr, zero-mul, arith}
+use Rattle.std.proofs.Common.{◌≡◌, ℕ, suc, ◌+◌, ◌<◌, List, [], ◌∷◌, map, length, get_or, drop, Some, None, Ok, Err, Result, sym, refl, ap, ◌∙◌, subst, inl, inr, zero-mul, arith}
 use Rattle.std.proofs.lemmas.List.{get_or-map, length-map, take-append-drop}
 use Rattle.std.specs.List.{AllZip}
 use Rattle.files.specs.Bytes.{two}
-use Rattle.files.specs.Directory.{dir_fault, line_of, lines_from, lines_of}
+use Rattle.files.specs.Directory.{dir_fault, line_of, lines_of}
 use Rattle.files.specs.declared.list_fault.LineFault.{LineFault}
 use Rattle.files.specs.declared.list_fault.LineFault.TheVariants.{Byte, Early}
 use Rattle.files.proofs.Writes.{length_lines}
@@ -14,6 +14,7 @@ use Rattle.rows.specs.Listing.{RowOf, file_of}
 use Rattle.rows.specs.declared.fault.FolderFault.{FolderFault}
 use Rattle.listing.specs.Listing.{ReadsBack, Written, list_checks}
 use Rattle.folder.specs.Calls.{Retaken, TakenAgain, TakenIn}
+use Rattle.folder.proofs.Adding.{line_at}
 
 -- the rows of the lines of storable rows are those rows
 same_again : (u : Rules) (ls rows : List (List ℕ)) → AllStorable u ls → AllZip (RowOf u) (map u.line_of ls) rows → rows ≡ ls
@@ -27,13 +28,6 @@ same_again u (a ∷ ls) (r ∷ rows) all h =
 not_wrong : (u : Rules) (l : List ℕ) (f : LineFault) → IsLine u l → LineAnswer u l (Some f) → ⊥
 not_wrong u l (Byte i) line h = h.2 (drop (i + 1) l, subst (IsLine u) (sym (take-append-drop (i + 1) l)) line)
 not_wrong u l (Early n) line h = h.2 line
-
--- line i of a file, among all its lines
-line_at : (n j i : ℕ) (bs : List ℕ) → i < n → get_or (lines_from n j bs) i [] ≡ line_of bs (j + i)
-unfolding lines_from
-line_at zero j i bs h = absurd (omega arith)
-line_at (suc n) j zero bs h = ap (line_of bs) (omega arith)
-line_at (suc n) j (suc i) bs h = line_at n (j + 1) i bs (omega arith) ∙ ap (line_of bs) (omega arith)
 
 module _ (k : Kind) (u : Rules) (ls : List (List ℕ)) (all : AllStorable u ls) (right : dir_fault (file_of u ls) ≡ None) (lines : lines_of (file_of u ls) ≡ map u.line_of ls) where
   abbrev file : List ℕ

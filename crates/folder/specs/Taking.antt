@@ -1,5 +1,5 @@
 -- How a list file's lines are read, one after another.
-use Rattle.std.specs.Prelude.{◌≡◌, ℕ, ◌+◌, ◌*◌, ◌<◌, List, [], ◌++◌, length, drop, Some, None, Option}
+use Rattle.std.specs.Prelude.{◌≡◌, ℕ, ◌+◌, ◌*◌, ◌<◌, List, ◌++◌, drop, Some, None, Option}
 use Rattle.std.specs.List.{AllZip}
 use Rattle.files.specs.Directory.{line_of, lines_from}
 use Rattle.files.specs.declared.list_fault.ListFault.{ListFault}
@@ -15,8 +15,9 @@ FirstFault u file n None = AllLines u file n
 FirstFault u file n (Some (Directory at)) = ⊥
 FirstFault u file n (Some (Wrong i f)) = (i < n) × AllLines u file i × LineAnswer u (line_of file i) (Some f)
 
--- n lines stood in memory m, and the rows of the first i lines of a file stand behind them in m'; what lies behind those is as it was
-abbrev pub Added : Kind → Rules → List ℕ → ℕ → ℕ → List ℕ → List ℕ → Type 0
-Added k u file n i m m' =
+-- n lines stood in memory m, and the first i lines of a file stand behind them in m', each as the one row that is its own; what lies
+-- behind those is as it was
+abbrev pub LinesAdded : Kind → Rules → List ℕ → ℕ → ℕ → List ℕ → List ℕ → Type 0
+LinesAdded k u file n i m m' =
     (rows : List (List ℕ)) × AllZip (RowOf u) (lines_from i 0 file) rows × (standing k.width (n + i) m' ≡ standing k.width n m ++ rows)
     × (drop ((n + i) * k.width) m' ≡ drop ((n + i) * k.width) m)

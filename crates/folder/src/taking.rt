@@ -4,8 +4,9 @@ ghost use Rattle.files.specs.Bytes.{two};
 ghost use Rattle.files.specs.Directory.{dir_fault};
 ghost use Rattle.rows.specs.Checks.{AllLines};
 ghost use Rattle.rows.specs.Standing.{standing};
+ghost use Rattle.folder.specs.Answers.{Added, TakeInAnswer};
 ghost use Rattle.folder.specs.Calls.{KeptBehind, Rewrites, TakenIn};
-ghost use Rattle.folder.specs.Taking.{Added, FirstFault};
+ghost use Rattle.folder.specs.Taking.{FirstFault, LinesAdded};
 
 use super::folder::Folder;
 use files::list::ListReader;
@@ -44,7 +45,8 @@ fn write_rows<M: Machine>(
     requires narrow { width ≤ 60 }
     requires wide { width ≡ (M.OrderedRow.kind machine.now).width }
     requires room { (standing + list.now.count) * width ≤ length memory.old }
-    ensures { Added (M.OrderedRow.kind machine.now) (M.Machine.rules machine.now) list.now.bytes.now standing list.now.count memory.old memory.new }
+    ensures added { Added (M.OrderedRow.kind machine.now) (M.Machine.rules machine.now) list.now.bytes.now standing list.now.count memory.old memory.new }
+    ensures each { LinesAdded (M.OrderedRow.kind machine.now) (M.Machine.rules machine.now) list.now.bytes.now standing list.now.count memory.old memory.new }
 {
     for i in 0..list.count() {
         if let Some(line) = list.line(i) {
@@ -59,10 +61,12 @@ impl<M: Machine> Folder<M> {
     // that is written from its rows.
     pub fn take_in(&mut self, memory: &mut [u8], file: &[u8]) -> Result<(), FolderFault>
         ensures machine { self.new.machine ≡ self.old.machine }
+        ensures answer { TakeInAnswer (M.OrderedRow.kind self.old.machine) (M.Machine.rules self.old.machine) self.old.count self.new.count memory.old memory.new file.now result }
         ensures rows { let k = M.OrderedRow.kind self.old.machine in TakenIn k (M.Machine.rules self.old.machine) (length memory.old) file.now (standing k.width self.old.count memory.old) result (standing k.width self.new.count memory.new) }
         ensures behind { KeptBehind (M.OrderedRow.kind self.old.machine).width self.new.count memory.old memory.new result }
         ensures again { let k = M.OrderedRow.kind self.old.machine in Rewrites (M.Machine.rules self.old.machine) file.now (standing k.width self.old.count memory.old) result (standing k.width self.new.count memory.new) }
     {
+        let width = self.machine.row_len();
         let _held = self.standing_bytes(memory.len())?;
         let list = ListReader::open(file)?;
         if let Some(fault) = first_fault(&self.machine, &list) {
@@ -71,13 +75,7 @@ impl<M: Machine> Folder<M> {
         if self.count + list.count() > self.places(memory.len()) {
             return Err(FolderFault::Full(self.count));
         }
-        write_rows(
-            &self.machine,
-            &list,
-            memory,
-            self.count,
-            self.machine.row_len(),
-        );
+        write_rows(&self.machine, &list, memory, self.count, width);
         self.count += list.count();
         Ok(())
     }

@@ -1,0 +1,87 @@
+-- From the checks that a call makes, and the rows after it, to its answer case by case.
+use Rattle.std.proofs.Common.{◌≡◌, ℕ, ◌+◌, ◌*◌, ◌/◌, ◌<◌, ◌≤◌, List, ◌++◌, length, drop, Ok, Err, Result, sym, refl, ap, ◌∙◌, subst, inl, inr, arith}
+use Rattle.std.proofs.lemmas.Nat.{le-div}
+use Rattle.std.proofs.lemmas.List.{length-append}
+use Rattle.std.proofs.lemmas.List.Elements.{length_all_zip}
+use Rattle.files.specs.Bytes.{two}
+use Rattle.files.specs.Directory.{lines_of}
+use Rattle.files.proofs.Writes.{length_lines}
+use Rattle.machines.specs.Kind.{Kind, Rules}
+use Rattle.rows.specs.Checks.{◌before◌, holds_rows, places, wiped}
+use Rattle.rows.specs.Listing.{RowOf}
+use Rattle.rows.specs.Standing.{standing}
+use Rattle.rows.specs.declared.fault.FolderFault.{FolderFault}
+use Rattle.rows.proofs.Rows.{standing_length}
+use Rattle.judge.specs.Verdicts.{WitnessLeft, judge_checks}
+use Rattle.judge.specs.declared.verdict.Verdict.{Verdict}
+use Rattle.folder.specs.Answers.{JudgeAnswer, TakeInAnswer}
+use Rattle.folder.specs.Calls.{KeptBehind, Ruled, TakenIn, take_in_checks}
+use Rattle.folder.proofs.Adding.{added_each}
+
+-- what holds of the number of rows holds of the count
+by_count : (w n : ℕ) (m : List ℕ) (P : ℕ → Type 0) → P (length (standing w n m)) → P n
+by_count w n m P h = subst P (standing_length w n m) h
+
+-- lines that fit into memory have places
+has_places : (n w memory : ℕ) → n ≤ 1024 → 0 < w → n * w ≤ memory → n ≤ places w memory
+has_places n w memory few some h = let q : n ≤ memory / w = le-div n memory w some h in omega arith
+
+module _ (k : Kind) (u : Rules) (n : ℕ) (m file : List ℕ) (few : n ≤ 1024) (some : 0 < k.width) where
+  abbrev before_call : List (List ℕ)
+  before_call = standing k.width n m
+
+  take_in_refused : (n' : ℕ) (m' : List ℕ) (e : FolderFault) → (take_in_checks k u (length m) file before_call).Fails e → n' ≡ n → m' ≡ m → TakeInAnswer k u n n' m m' file (Err e)
+  take_in_refused n' m' e (inl (short, f)) hn hm =
+      subst (λ x. TakeInAnswer k u n n' m m' file (Err x)) (sym f)
+      (by_count k.width n m (λ i. length m < i * k.width) short, ap (λ i. i * k.width) (standing_length k.width n m), hn, hm)
+  take_in_refused n' m' e (inr (held, inl (at, wrong, f))) hn hm =
+      subst (λ x. TakeInAnswer k u n n' m m' file (Err x)) (sym f) (by_count k.width n m (λ i. i * k.width ≤ length m) held, wrong, hn, hm)
+  take_in_refused n' m' e (inr (held, inr (right, inl (i, l, h, all, wrong, f)))) hn hm =
+      subst (λ x. TakeInAnswer k u n n' m m' file (Err x)) (sym f) (by_count k.width n m (λ q. q * k.width ≤ length m) held, right, h, all, wrong, hn, hm)
+  take_in_refused n' m' e (inr (held, inr (right, inr (all, (full, f))))) hn hm =
+      let room = by_count k.width n m (λ i. i * k.width ≤ length m) held in
+      let free = has_places n k.width (length m) few some room in
+      let more = by_count k.width n m (λ i. places k.width (length m) < i + two file 0) full in
+      subst (λ x. TakeInAnswer k u n n' m m' file (Err x)) (sym f) (room, right, all, omega arith, standing_length k.width n m, hn, hm)
+
+  -- what take in answers
+  pub take_in_answer : (n' : ℕ) (m' : List ℕ) (r : Result Unit FolderFault) → TakenIn k u (length m) file before_call r (standing k.width n' m') → KeptBehind k.width n' m m' r → TakeInAnswer k u n n' m m' file r
+  take_in_answer n' m' (Err e) (fails, same) kept =
+      take_in_refused n' m' e fails (sym (standing_length k.width n' m') ∙ ap length same ∙ standing_length k.width n m) kept
+  take_in_answer n' m' (Ok x) ((held, (right, (all, free))), (rows, each, stand)) kept =
+      let w = k.width in
+      let long : length rows ≡ two file 0 = sym (length_all_zip (RowOf u) (lines_of file) rows each) ∙ length_lines (two file 0) 0 file in
+      let total : n' ≡ n + two file 0 =
+      sym (standing_length w n' m') ∙ ap length stand ∙ length-append before_call rows ∙ ap (λ i. i + length rows) (standing_length w n m) ∙ ap (λ i. n + i) long
+      in
+      let room = by_count w n m (λ i. i + two file 0 ≤ places w (length m)) free in (
+        by_count w n m (λ i. i * w ≤ length m) held,
+        right,
+        all,
+        omega arith,
+        total,
+        added_each k u file n m (two file 0) m' (rows, each, subst (λ i. standing w i m' ≡ before_call ++ rows) total stand, subst (λ i. drop (i * w) m' ≡ drop (i * w) m) total kept),
+      )
+
+module _ (k : Kind) (u : Rules) (n : ℕ) (m s s' t t' : List ℕ) where
+  abbrev rows : List (List ℕ)
+  rows = standing k.width n m
+
+  held_rows : (holds_rows k.width (length rows) (length m)).Passes → n * k.width ≤ length m
+  held_rows held = by_count k.width n m (λ i. i * k.width ≤ length m) held
+
+  abbrev Left : FolderFault → Type 0
+  Left e = s' ≡ wiped {A = Verdict} (Err e) s → t' ≡ wiped {A = Verdict} (Err e) t → JudgeAnswer k u n m s s' t t' (Err e)
+
+  judge_refused : (e : FolderFault) → (holds_rows k.width (length rows) (length m) before judge_checks k u rows (length s) (length t)).Fails e → Left e
+  judge_refused e (inl (short, f)) =
+      subst Left (sym f)
+      (λ hs ht. (inl (by_count k.width n m (λ i. length m < i * k.width) short, ap (λ i. i * k.width) (standing_length k.width n m)), hs, ht))
+  judge_refused e (inr (held, inl (short, f))) = subst Left (sym f) (λ hs ht. (inr (held_rows held, inl short, refl), hs, ht))
+  judge_refused e (inr (held, inr (ws, inl (short, f)))) = subst Left (sym f) (λ hs ht. (inr (held_rows held, inr short, refl), hs, ht))
+  judge_refused e (inr (held, inr (ws, inr (wt, (i, low, f))))) = subst Left (sym f) (λ hs ht. ((held_rows held, ws, wt), low, hs, ht))
+
+  -- what judge answers
+  pub judge_answer : (r : Result Verdict FolderFault) → Ruled k u (length m) (length s) (length t) rows r → s' ≡ wiped r s → WitnessLeft k u rows r t t' → JudgeAnswer k u n m s s' t t' r
+  judge_answer (Err e) fails strip witness = judge_refused e fails strip witness
+  judge_answer (Ok v) ((held, (ws, (wt, all))), judged) strip witness = ((held_rows held, ws, wt), all, judged, strip, witness)
