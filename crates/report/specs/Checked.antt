@@ -1,24 +1,24 @@
 -- What a check of two files comes to.
-use Rattle.std.specs.Prelude.{◌≡◌, ℕ, List, Some, None, Ok, Err, Result}
-use Rattle.std.specs.List.{AllZip}
+use Rattle.std.specs.Prelude.{◌≡◌, ℕ, ◌<◌, List, [], length, Some, None, Ok, Err, Result, slice_index_or}
 use Rattle.files.specs.Bytes.{two}
-use Rattle.files.specs.Directory.{lines_of}
+use Rattle.files.specs.Directory.{dir_fault, line_of}
+use Rattle.files.specs.ListFault.{list_numbers}
 use Rattle.files.specs.Program.{Program, sizes_of}
 use Rattle.files.specs.ReadSystem.{system_fault, program_of}
 use Rattle.files.specs.SystemFault.{system_numbers}
+use Rattle.files.specs.declared.list_fault.ListFault.{ListFault}
+use Rattle.files.specs.declared.list_fault.ListFault.TheVariants.{Directory, Line}
 use Rattle.files.specs.declared.refusal.Refusal.{Refusal}
 use Rattle.files.specs.declared.sizes.Sizes.{Sizes}
 use Rattle.files.specs.declared.system_fault.SystemFault.{SystemFault}
+use Rattle.machines.specs.Kind.{LineAnswer}
 use Rattle.machines.specs.Matched.{StoreSafe}
 use Rattle.load_buffers.specs.Configs.{load_kind}
 use Rattle.load_buffers.specs.LoadRules.{load_rules}
-use Rattle.rows.specs.Checks.{Check, ◌before◌, right_directory, right_lines}
-use Rattle.rows.specs.Fault.{folder_numbers}
-use Rattle.rows.specs.declared.fault.FolderFault.{FolderFault}
+use Rattle.rows.specs.Checks.{AllLines}
 use Rattle.judge.specs.Verdicts.{Judged as Verdicts}
 use Rattle.judge.specs.declared.verdict.Verdict.{Verdict}
 use Rattle.judge.specs.declared.verdict.Verdict.TheVariants.{Safe, Start, Bad, Leak}
-use Rattle.rows.specs.Listing.{RowOf}
 use Rattle.report.specs.declared.outcome.Outcome.{Outcome}
 use Rattle.report.specs.declared.outcome.Outcome.TheVariants.{NoSystem, NoList, Judged}
 
@@ -26,13 +26,18 @@ use Rattle.report.specs.declared.outcome.Outcome.TheVariants.{NoSystem, NoList, 
 abbrev pub Sized : List ℕ → Sizes → Type 0
 Sized system z = (system_fault system ≡ None) × (z ≡ sizes_of (program_of system))
 
--- the directory of a list file is right, and then every line is one of the system's load-buffer machine
-abbrev pub right_list : Program → List ℕ → Check
-right_list s list = right_directory list before right_lines (load_rules s) list
+-- the fault of a list file: the directory's, or that of the first wrong line of a right directory
+abbrev pub ListWrong : Program → List ℕ → ListFault → Type 0
+ListWrong s list (Directory at) = dir_fault list ≡ Some at
+ListWrong s list (Line i f) =
+    (dir_fault list ≡ None) × (i < two list 0) × AllLines (load_rules s) list i × LineAnswer (load_rules s) (line_of list i) (Some f)
 
 -- the verdict is the judge's on the rows of the file's lines
 abbrev pub JudgedBy : Program → List ℕ → Verdict → Type 0
-JudgedBy s list v = (rows : List (List ℕ)) × AllZip (RowOf (load_rules s)) (lines_of list) rows × Verdicts (load_kind s) (load_rules s) rows v
+JudgedBy s list v =
+    (rows : List (List ℕ)) × (length rows ≡ two list 0)
+    × ((i : ℕ) → i < two list 0 → (load_rules s).Storable (slice_index_or rows i []) × (line_of list i ≡ (load_rules s).line_of (slice_index_or rows i [])))
+    × Verdicts (load_kind s) (load_rules s) rows v
 
 -- safe means that no store-buffer run from the start, with any number of stores pending, reaches a bad state
 abbrev pub SafeMeans : Program → Verdict → Type 0
@@ -43,8 +48,8 @@ SafeMeans s (Leak i k) = Unit {0}
 
 -- the count of lines and the verdict, or the refusal of the list
 abbrev pub ListJudged : Program → List ℕ → Result (ℕ × Verdict) Refusal → Type 0
-ListJudged s list (Ok (n, v)) = (right_list s list).Passes × (n ≡ two list 0) × JudgedBy s list v × SafeMeans s v
-ListJudged s list (Err r) = (e : FolderFault) × (right_list s list).Fails e × (r ≡ folder_numbers e)
+ListJudged s list (Ok (n, v)) = (dir_fault list ≡ None) × (n ≡ two list 0) × JudgedBy s list v × SafeMeans s v
+ListJudged s list (Err r) = (f : ListFault) × ListWrong s list f × (r ≡ list_numbers f)
 
 abbrev pub Checked : List ℕ → List ℕ → Outcome → Type 0
 Checked system list (NoSystem r) = (f : SystemFault) × (system_fault system ≡ Some f) × (r ≡ system_numbers f)

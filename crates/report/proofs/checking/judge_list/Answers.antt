@@ -1,16 +1,13 @@
-use Rattle.std.proofs.Common.{◌≡◌, ◌*◌, ◌≤◌, [], ◌++◌, length, Ok, Err, sym, ap, ◌∙◌, subst, arith}
+use Rattle.std.proofs.Common.{◌≡◌, ℕ, ◌≤◌, List, length, replicate, Ok, Err, ap, ◌∙◌, subst, arith}
 use Rattle.files.specs.Bytes.{two}
-use Rattle.files.specs.Directory.{lines_of}
 use Rattle.files.specs.Program.{program}
 use Rattle.fronts.proofs.Systems.{known}
 use Rattle.load_buffers.specs.Configs.{load_kind}
 use Rattle.load_buffers.specs.LoadRules.{load_rules}
-use Rattle.rows.specs.Standing.{standing}
-use Rattle.rows.proofs.Rows.{places_fit, standing_length}
-use Rattle.judge.specs.Verdicts.{Judged, SafeHolds}
-use Rattle.folder.specs.Calls.{Ruled, TakenIn}
+use Rattle.judge.specs.Verdicts.{SafeHolds}
+use Rattle.folder.specs.Answers.{JudgeAnswer, TakeInAnswer}
 use Rattle.report.proofs.Hardware.{safe_means}
-use Rattle.report.proofs.Taken.{empty_taken, list_wrong, not_refused, rows_taken, taken_at}
+use Rattle.report.proofs.Taken.{judged_rows, list_wrong, not_refused, rows_fit}
 use Rattle.report.proofs.checking.judge_list.Goals as goal
 
 pub returns-in-Err : goal.returns-in-Err
@@ -19,16 +16,17 @@ returns-in-Err c =
     let s = program sys in
     let range = known sys in
     let m = c.args.memory.now in
+    let m' = c.take_in.new.memory in
+    let n = c.take_in.new.self.count in
     let file = c.args.list.now in
     let folder = c.open-folder.result in
     let same : folder.machine.system ≡ sys = ap (λ y. y.system) c.open-folder.ensures.machine ∙ c.new.ensures in
     let e = c.in-Err.fault in
-    let y = program folder.machine.system in
-    let n = c.take_in.new.self.count in
-    let after = standing (load_kind y).width n c.take_in.new.memory in
-    let told = empty_taken (load_kind y) (load_rules y) (length m) folder.count m file (Err e) after c.open-folder.ensures.empty c.in-Err.ensures.rows in
-    let mine = subst (λ z. TakenIn (load_kind (program z)) (load_rules (program z)) (length m) file [] (Err e) after) same told in
-    (e, list_wrong s (length m) file after e (omega (arith, range.processes)) (omega (arith, range.processes, range.variables)) c.requires mine, c.refusal.ensures)
+    let told = subst (λ y. TakeInAnswer (load_kind (program y)) (load_rules (program y)) 0 n m m' file (Err e)) same
+    (subst (λ i. TakeInAnswer (load_kind (program folder.machine.system)) (load_rules (program folder.machine.system)) i n m m' file (Err e)) c.open-folder.ensures.empty c.in-Err.ensures.answer)
+    in
+    let (f, wrong, numbers) = list_wrong s n m m' file e (omega (arith, range.processes)) (omega (arith, range.processes, range.variables)) c.requires told in
+    (f, wrong, c.refusal.ensures ∙ numbers)
 
 pub unreachable-requires : goal.unreachable-requires
 unreachable-requires c =
@@ -37,24 +35,22 @@ unreachable-requires c =
     let range = known sys in
     let m = c.args.memory.now in
     let m' = c.take_in.new.memory in
+    let n = c.take_in.new.self.count in
     let file = c.args.list.now in
     let folder = c.open-folder.result in
     let same : folder.machine.system ≡ sys = ap (λ y. y.system) c.open-folder.ensures.machine ∙ c.new.ensures in
     let kept : c.take_in.new.self.machine.system ≡ sys = ap (λ y. y.system) c.take_in.ensures.machine ∙ same in
-    let n = c.take_in.new.self.count in
-    let k = load_kind s in
-    let u = load_rules s in
-    let w = k.width in
-    let after = standing w n m' in
     let x = c.in_default.field-0 in
-    let told = taken_at sys folder.machine.system (length m) folder.count n m m' file x same c.open-folder.ensures.empty c.in_default.ensures.rows in
-    let rows = told.1.0 in
+    let told = subst (λ y. TakeInAnswer (load_kind (program y)) (load_rules (program y)) 0 n m m' file (Ok x)) same
+    (subst (λ i. TakeInAnswer (load_kind (program folder.machine.system)) (load_rules (program folder.machine.system)) i n m m' file (Ok x)) c.open-folder.ensures.empty c.in_default.ensures.answer)
+    in
     let e = c.in-Err-judge.field-0 in
-    let ruled = subst (λ y. Ruled (load_kind (program y)) (load_rules (program y)) (length m') 48 48 (standing (load_kind (program y)).width n m') (Err e)) kept c.in-Err-judge.ensures.ruled in
-    let count = rows_taken u file rows after told.1.1 told.1.2 in
-    let fits = places_fit (two file 0) w (length m) (omega (arith, told.0.1.1.1)) in
+    let z : List ℕ = replicate 48 0 in
+    let answer = subst (λ y. JudgeAnswer (load_kind (program y)) (load_rules (program y)) n m' z c.judge.new.strip z c.judge.new.witness (Err e)) kept c.in-Err-judge.ensures.answer in
+    let w = (load_kind s).width in
     let narrow : w ≤ 48 = omega (arith, range.processes, range.variables) in
-    not_refused k u (lines_of file) rows after told.1.1 told.1.2 (length m') 48 48 e ruled (subst (λ i. i * w ≤ length m') (sym count) (omega (arith, fits, c.take_in.auto.memory))) narrow narrow
+    let fits = rows_fit n (two file 0) w (length m) told.4 told.3 in
+    not_refused (load_kind s) (load_rules s) file m m' n told.4 told.5 z c.judge.new.strip z c.judge.new.witness e answer (omega (arith, fits, c.take_in.auto.memory)) narrow narrow
 
 pub returns : goal.returns
 returns c =
@@ -62,23 +58,16 @@ returns c =
     let s = program sys in
     let m = c.args.memory.now in
     let m' = c.take_in.new.memory in
+    let n = c.take_in.new.self.count in
     let file = c.args.list.now in
     let folder = c.open-folder.result in
     let same : folder.machine.system ≡ sys = ap (λ y. y.system) c.open-folder.ensures.machine ∙ c.new.ensures in
     let kept : c.take_in.new.self.machine.system ≡ sys = ap (λ y. y.system) c.take_in.ensures.machine ∙ same in
-    let n = c.take_in.new.self.count in
-    let k = load_kind s in
-    let u = load_rules s in
-    let w = k.width in
-    let after = standing w n m' in
     let x = c.in_default.field-0 in
-    let told = taken_at sys folder.machine.system (length m) folder.count n m m' file x same c.open-folder.ensures.empty c.in_default.ensures.rows in
+    let told = subst (λ y. TakeInAnswer (load_kind (program y)) (load_rules (program y)) 0 n m m' file (Ok x)) same
+    (subst (λ i. TakeInAnswer (load_kind (program folder.machine.system)) (load_rules (program folder.machine.system)) i n m m' file (Ok x)) c.open-folder.ensures.empty c.in_default.ensures.answer)
+    in
     let v = c.in-Ok.verdict in
-    let ruled = subst (λ y. Ruled (load_kind (program y)) (load_rules (program y)) (length m') 48 48 (standing (load_kind (program y)).width n m') (Ok v)) kept c.in-Ok.ensures.ruled in
+    let answer = subst (λ y. JudgeAnswer (load_kind (program y)) (load_rules (program y)) n m' (replicate 48 0) c.judge.new.strip (replicate 48 0) c.judge.new.witness (Ok v)) kept c.in-Ok.ensures.answer in
     let safe = subst (λ y. SafeHolds (load_rules (program y)) (Ok v)) kept c.in-Ok.ensures.safe in
-    let count = rows_taken u file told.1.0 after told.1.1 told.1.2 in (
-      (told.0.1.0, told.0.1.1.0),
-      c.count-lines.ensures ∙ sym (standing_length w n m') ∙ count,
-      (told.1.0, told.1.1, subst (λ ls. Judged k u ls v) told.1.2 ruled.1),
-      safe_means sys v safe,
-    )
+    (told.1, c.count-lines.ensures ∙ told.4 ∙ omega arith, judged_rows (load_kind s) (load_rules s) file m m' n told.4 told.5 v answer.2, safe_means sys v safe)
