@@ -1,5 +1,5 @@
 -- A queue whose oldest message is taken as often as it has messages is empty.
-use Rattle.std.proofs.Common.{◌≡◌, ℕ, zero, suc, ◌+◌, ◌-◌, ◌*◌, ◌<◌, ◌≤◌, min, Bool, true, false, cond, ltb, List, [], ◌++◌, length, get_or, take, drop, set, Some, None, Ok, Err, Option, Result, sym, refl, ap, ◌∙◌, subst, arith}
+use Rattle.std.proofs.Common.{◌≡◌, ℕ, zero, suc, ◌+◌, ◌-◌, ◌*◌, ◌<◌, ◌≤◌, min, Bool, true, false, cond, ltb, [], ◌++◌, length, get_or, take, drop, Some, None, Ok, Err, Option, Result, sym, refl, ap, ◌∙◌, arith}
 use Rattle.std.proofs.lemmas.List.{get_or-set_same, length-set, length-map, length-append, length-take, length-drop, nil_from_length}
 use Rattle.files.specs.Program.{Program, Ranges, sizes_of}
 use Rattle.machines.specs.Step.{number_of}
@@ -14,7 +14,7 @@ use Rattle.bench.specs.declared.perform.Hindrance.TheVariants.{Full as NoPlace}
 use Rattle.bench.specs.Deeds.{deed_of}
 use Rattle.bench.specs.Perform.{has_place, length_after, seen, by_effect}
 use Rattle.bench.specs.Play.{Outcome, played, unready, unless, by_deed, by_performed, enacted, done, refused, onward, repeated, drained, Came}
-use Rattle.bench.specs.Table.{Table, part, on_part, queue_of, needed}
+use Rattle.bench.specs.Table.{Table, part, queue_of, needed}
 use Rattle.bench.proofs.Deeding.{moves_deed}
 use Rattle.bench.proofs.Playing.{part_within}
 use Rattle.bench.proofs.Stepped.{queue_length, ready_enough}

@@ -1,9 +1,9 @@
 -- The same move again and again.
-use Rattle.std.proofs.Common.{◌≡◌, ℕ, zero, suc, ◌+◌, ◌<◌, ◌≤◌, Ok, Err, Result, sym, refl, ap, ◌∙◌, arith}
+use Rattle.std.proofs.Common.{◌≡◌, ℕ, zero, suc, ◌+◌, ◌<◌, Ok, Err, sym, refl, ap, ◌∙◌, arith}
 use Rattle.files.specs.Program.{Program}
 use Rattle.queue.specs.Fifo.{Kind}
 use Rattle.bench.specs.declared.fault.BenchFault.{BenchFault}
-use Rattle.bench.specs.Play.{Outcome, played, repeated, onward, refused, done, Came}
+use Rattle.bench.specs.Play.{played, repeated, onward, refused, done, Came}
 use Rattle.rules.specs.Rulebook.{Rulebook}
 use Rattle.bench.specs.Table.{Table}
 

@@ -1,24 +1,18 @@
 -- A move by hand is a step of the machine, and each step of the machine is such a move.
-use Rattle.std.proofs.Common.{◌≡◌, ℕ, zero, suc, ◌+◌, ◌-◌, ◌*◌, ◌<◌, ◌≤◌, min, Bool, true, false, cond, ltb, ◌⊎◌, List, [], ◌∷◌, ◌++◌, map, length, get_or, take, drop, set, Some, None, Ok, Err, Option, Result, sym, refl, ap, ◌∙◌, subst, inl, inr, ⊎_elim, add-one, arith, rules}
+use Rattle.std.proofs.Common.{◌≡◌, ℕ, zero, suc, ◌+◌, ◌*◌, ◌<◌, ◌≤◌, Bool, true, false, cond, ◌⊎◌, List, [], ◌∷◌, ◌++◌, map, length, get_or, take, drop, set, sym, refl, ap, ◌∙◌, inl, inr, ⊎_elim, add-one, arith, rules}
 use Rattle.queue.proofs.Shifts.{popped_queue}
 use Rattle.bench.proofs.Playing.{part_within}
 use Rattle.std.specs.List.{range_with_len}
-use Rattle.std.proofs.lemmas.List.{places, same_lists, get_or-set_same, get_or-set_other, length-set, length-take, take_more_set, map_push, length-map, length_push, drop-map, take_at, drop_at, length-take-le, length-append, take-append-drop, ext_get_or}
+use Rattle.std.proofs.lemmas.List.{places, same_lists, get_or-set_same, get_or-set_other, length-set, take_more_set, map_push, length_push, drop-map, take_at, drop_at, length-take-le, length-append, take-append-drop, ext_get_or}
 use Rattle.std.proofs.lemmas.List.FromFn.{length-map-range_with_len, get_or-map-range_with_len}
-use Rattle.std.proofs.lemmas.Bool.{cases_eq, cases_lt, ltb-true, ltb-false}
-use Rattle.files.specs.Program.{Program, Ranges, sizes_of}
-use Rattle.machines.specs.Message.{Message, Queue}
-use Rattle.machines.specs.Config.{Config, View, view, at, put}
-use Rattle.machines.specs.Step.{Move, number_of, Step, moves}
+use Rattle.std.proofs.lemmas.Bool.{cases_eq, cases_lt, ltb-true}
+use Rattle.machines.specs.Message.{Queue}
 use Rattle.queue.specs.Fifo.{Kind, popped, advanced}
-use Rattle.rules.specs.declared.act.Deed.{Deed}
 use Rattle.rules.specs.declared.effect.Change.{Change}
 use Rattle.rules.specs.declared.effect.Change.TheVariants.{Keep, Join, Leave}
-use Rattle.rules.specs.declared.effect.Effect.{Effect}
-use Rattle.bench.specs.Perform.{Sight, has_place, places_after, length_after, seen, by_effect, performed}
-use Rattle.bench.specs.Play.{enacted}
-use Rattle.rules.specs.Rulebook.{Rulebook, room, changed, applied, Exact}
-use Rattle.bench.specs.Table.{Table, part, on_part, queue_of, queues, config_of, needed}
+use Rattle.bench.specs.Perform.{has_place, places_after, length_after}
+use Rattle.rules.specs.Rulebook.{Rulebook, room, changed}
+use Rattle.bench.specs.Table.{Table, part, on_part, queue_of, queues, config_of}
 
 -- a part of the records after another has been written over, and that part itself
 own_part : {X : Type 0} (a r : ℕ) (ms xs : List X) → a + r ≤ length ms → length xs ≡ r → take r (drop a (take a ms ++ (xs ++ drop (a + r) ms))) ≡ xs

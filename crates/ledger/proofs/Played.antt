@@ -1,5 +1,5 @@
 -- One call more.
-use Rattle.std.proofs.Common.{◌≡◌, ℕ, ◌+◌, ◌<◌, List, [], ◌∷◌, ◌++◌, length, get_or, take, set, sym, refl, subst}
+use Rattle.std.proofs.Common.{ℕ, ◌+◌, ◌<◌, List, [], ◌∷◌, ◌++◌, length, get_or, take, set, sym, refl, subst}
 use Rattle.std.proofs.lemmas.List.{take_more, take_more_set}
 use Rattle.machines.specs.Kind.{Kind, Rules}
 use Rattle.ledger.specs.declared.call.Answer.{Answer}

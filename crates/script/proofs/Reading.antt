@@ -1,5 +1,5 @@
 -- One byte of a script, and one line.
-use Rattle.std.proofs.Common.{◌≡◌, ℕ, ◌+◌, ◌<◌, ◌≤◌, List, [], ◌∷◌, ◌++◌, length, get_or, drop, Some, None, Ok, Err, Option, sym, refl, ap, ◌∙◌, arith}
+use Rattle.std.proofs.Common.{◌≡◌, ℕ, ◌+◌, ◌<◌, ◌≤◌, List, [], ◌∷◌, length, get_or, drop, Some, None, Ok, Err, sym, refl, ap, ◌∙◌, arith}
 use Rattle.std.specs.List.{between}
 use Rattle.std.proofs.lemmas.List.{drop_more, drop_all}
 use Rattle.std.proofs.lemmas.List.Edits.{between_none, between_more, length-between}
@@ -12,7 +12,7 @@ use Rattle.bench.specs.Play.{Came}
 use Rattle.rules.specs.Rulebook.{Rulebook}
 use Rattle.bench.specs.Table.{Table}
 use Rattle.script.specs.Lines.{line_command}
-use Rattle.script.specs.Scripts.{Line, ended, unended, begun_line, lines_from, obeyed, Ending, stopped, onwards, by_command, folded}
+use Rattle.script.specs.Scripts.{Line, ended, begun_line, lines_from, obeyed, stopped, onwards, by_command, folded}
 use Rattle.script.specs.declared.command.Command.{Command}
 
 -- the byte at i ends a line

@@ -1,4 +1,4 @@
-use Rattle.std.proofs.Common.{set, sym, ap, ◌∙◌, arith}
+use Rattle.std.proofs.Common.{set, ap, ◌∙◌, arith}
 use Rattle.bench.proofs.Starting.{filled_more, filled_all}
 use Rattle.bench.proofs.begin.clear.Goals as goal
 

@@ -1,4 +1,4 @@
-use Rattle.std.proofs.Common.{◌≡◌, suc, ◌+◌, ◌-◌, sym, refl, ap, ◌∙◌, arith}
+use Rattle.std.proofs.Common.{◌≡◌, suc, ◌-◌, sym, ap, ◌∙◌, arith}
 use Rattle.bench.specs.Play.{wrong_at, lowest}
 use Rattle.bench.proofs.Lowest.{lowest_hit, lowest_miss, lowest_end}
 use Rattle.bench.proofs.checks.first_wrong.Goals as goal

@@ -1,9 +1,9 @@
-use Rattle.std.proofs.Common.{◌≡◌, ◌+◌, ◌∷◌, drop, Ok, Err, sym, ap, ◌∙◌, subst, arith}
+use Rattle.std.proofs.Common.{◌+◌, drop, Ok, Err, sym, ap, ◌∙◌, subst, arith}
 use Rattle.std.specs.List.{between}
 use Rattle.files.specs.Program.{Program, program}
 use Rattle.bench.specs.Play.{Came}
 use Rattle.bench.specs.Table.{table_of}
-use Rattle.script.specs.Scripts.{folded, lines_from, obeyed, ended}
+use Rattle.script.specs.Scripts.{folded, lines_from, obeyed}
 use Rattle.script.proofs.Reading.{lines_line, lines_byte, folded_left, folded_end, folded_unread, folded_refused, folded_more}
 use Rattle.script.proofs.run.run_lines.Goals as goal
 use Rattle.script.proofs.run.run_lines.Goals.{then-script-i-eq10+in-Some+in_default-obey, else-script-i-eq10}

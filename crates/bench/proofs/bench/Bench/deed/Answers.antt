@@ -1,4 +1,4 @@
-use Rattle.std.proofs.Common.{◌≡◌, ℕ, ◌-◌, ◌<◌, ◌≤◌, length, take, IfSome, ap, ◌∙◌, subst, arith, rules}
+use Rattle.std.proofs.Common.{◌≡◌, ℕ, ◌-◌, ◌<◌, ◌≤◌, length, take, IfSome, ap, ◌∙◌, subst, arith}
 use Rattle.files.specs.Program.{program}
 use Rattle.bench.specs.Deeds.{deed_of}
 use Rattle.rules.specs.declared.act.Deed.{Deed}

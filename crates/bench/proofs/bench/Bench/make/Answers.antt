@@ -1,9 +1,9 @@
-use Rattle.std.proofs.Common.{◌≡◌, ℕ, ◌+◌, ◌-◌, ◌*◌, ◌<◌, ◌≤◌, ◌++◌, length, get_or, take, drop, set, Err, sym, refl, ap, ◌∙◌, arith}
+use Rattle.std.proofs.Common.{◌≡◌, ◌+◌, ◌-◌, ◌++◌, length, get_or, take, drop, set, Err, sym, refl, ap, ◌∙◌, arith}
 use borrow.Rule.Slice.PartMut.{put_mid}
 use Rattle.std.proofs.lemmas.List.{get_or-take}
 use Rattle.files.specs.Program.{program}
 use Rattle.rules.specs.Rulebook.{room}
-use Rattle.bench.specs.Play.{played, enacted}
+use Rattle.bench.specs.Play.{enacted}
 use Rattle.bench.specs.Table.{table_of, on_part}
 use Rattle.bench.proofs.Playing.{played_ok, played_not, take_set_any, part_is, on_part_is, on_part_same, get_or_set_within, front_written, after_is, part_short}
 use Rattle.bench.proofs.bench.Bench.make.Goals as goal

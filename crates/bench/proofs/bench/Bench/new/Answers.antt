@@ -1,6 +1,5 @@
-use Rattle.std.proofs.Common.{vec_items, refl}
+use Rattle.std.proofs.Common.{refl}
 use Rattle.files.specs.Program.{program}
-use Rattle.bench.specs.Table.{table_of}
 use Rattle.bench.proofs.Starting.{in_range, start_is, zeros_front}
 use Rattle.bench.proofs.bench.Bench.new.Goals as goal
 

@@ -1,8 +1,5 @@
-use Rattle.std.proofs.Common.{Result, sym, subst}
 use Rattle.files.specs.Program.{program}
-use Rattle.bench.specs.declared.fault.BenchFault.{BenchFault}
-use Rattle.bench.specs.Steps.{Stepped}
-use Rattle.bench.specs.Table.{Table, table_of}
+use Rattle.bench.specs.Table.{table_of}
 use Rattle.bench.proofs.Stepped.{played_right}
 use Rattle.bench.proofs.bench.Bench.play.Goals as goal
 

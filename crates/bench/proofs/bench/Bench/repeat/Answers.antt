@@ -1,4 +1,4 @@
-use Rattle.std.proofs.Common.{◌≡◌, suc, ◌+◌, ◌-◌, Ok, Err, sym, ap, ◌∙◌, subst, arith}
+use Rattle.std.proofs.Common.{suc, ◌-◌, Ok, Err, sym, ap, ◌∙◌, subst, arith}
 use Rattle.files.specs.Program.{Program, program}
 use Rattle.bench.specs.Play.{Came, played}
 use Rattle.bench.specs.Table.{table_of}

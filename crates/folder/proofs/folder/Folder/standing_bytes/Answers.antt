@@ -1,4 +1,4 @@
-use Rattle.std.proofs.Common.{◌*◌, ◌≤◌, ap, ◌∙◌, subst, arith}
+use Rattle.std.proofs.Common.{◌*◌, ap, arith}
 use Rattle.rows.proofs.Rows.{product_small}
 use Rattle.folder.proofs.folder.Folder.standing_bytes.Goals as goal
 
