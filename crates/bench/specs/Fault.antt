@@ -1,12 +1,13 @@
 -- The numbers by which the bench's refusals are told.
 use Rattle.std.specs.Prelude.{ℕ}
 use Rattle.files.specs.declared.refusal.Refusal.{Refusal}
+use Rattle.files.specs.Refusal.{refused}
 use Rattle.bench.specs.declared.fault.BenchFault.{BenchFault}
 use Rattle.bench.specs.declared.fault.BenchFault.TheVariants.{Short, Wrong, Unreadable, Impossible, Full}
 
 -- a refusal by the bench, which is part 4
 abbrev pub of_part_four : ℕ → ℕ → Refusal
-of_part_four n at = record { number = n; part = 4; place = at; inner = 0 }
+of_part_four n at = refused n 4 at
 
 abbrev pub bench_numbers : BenchFault → Refusal
 bench_numbers (Short records) = of_part_four 1 records

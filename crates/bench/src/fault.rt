@@ -1,6 +1,6 @@
 // Why a bench turns a call down.
 ghost use Rattle.std.specs.Prelude.{◌≡◌};
-ghost use Rattle.bench.specs.Fault.{of_part_four, bench_numbers};
+ghost use Rattle.bench.specs.Fault.{bench_numbers};
 
 use files::refusal::Refusal;
 
@@ -18,28 +18,17 @@ pub enum BenchFault {
     Full(usize),
 }
 
-// A refusal by the bench, which is part 4.
-fn of_part_four(number: u8, place: usize) -> Refusal
-    ensures { result ≡ of_part_four number place }
-{
-    Refusal {
-        number,
-        part: 4,
-        place,
-        inner: 0,
-    }
-}
+// The bench is part 4.
+impl From<BenchFault> for Refusal {
+    ghost from_gives = { λ fault r. r ≡ bench_numbers fault };
 
-impl BenchFault {
-    pub fn refusal(self) -> Refusal
-        ensures { result ≡ bench_numbers self }
-    {
-        match self {
-            BenchFault::Short(records) => of_part_four(1, records),
-            BenchFault::Wrong(record) => of_part_four(9, record),
-            BenchFault::Unreadable(line) => of_part_four(13, line),
-            BenchFault::Impossible(number) => of_part_four(14, number),
-            BenchFault::Full(process) => of_part_four(15, process),
+    fn from(fault: BenchFault) -> Refusal {
+        match fault {
+            BenchFault::Short(records) => Refusal::new(1, 4, records),
+            BenchFault::Wrong(record) => Refusal::new(9, 4, record),
+            BenchFault::Unreadable(line) => Refusal::new(13, 4, line),
+            BenchFault::Impossible(number) => Refusal::new(14, 4, number),
+            BenchFault::Full(process) => Refusal::new(15, 4, process),
         }
     }
 }

@@ -6,6 +6,7 @@ pub mod Pieces
 pub mod Program
 pub mod ReadSystem
 pub mod Reader
+pub mod Refusal
 pub mod Sections
 pub mod Sizes
 pub mod SystemFault

@@ -32,17 +32,12 @@ impl LineFault {
     }
 }
 
-impl ListFault {
-    pub fn refusal(self) -> Refusal
-        ensures { result ≡ list_numbers self }
-    {
-        match self {
-            ListFault::Directory(place) => Refusal {
-                number: 6,
-                part: 2,
-                place,
-                inner: 0,
-            },
+impl From<ListFault> for Refusal {
+    ghost from_gives = { λ fault r. r ≡ list_numbers fault };
+
+    fn from(fault: ListFault) -> Refusal {
+        match fault {
+            ListFault::Directory(place) => Refusal::new(6, 2, place),
             ListFault::Line(number, fault) => Refusal {
                 number: 7,
                 part: 2,

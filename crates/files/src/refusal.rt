@@ -1,6 +1,11 @@
 // The four numbers by which a refusal is told.
+ghost use Rattle.std.specs.Prelude.{◌≡◌};
+ghost use Rattle.files.specs.Refusal.{refused};
+
 use std::fmt;
 
+// The published form of a refusal, as docs/REFUSALS.md lists it. The kinds of refusals are the enums of faults, each of which
+// converts into it; here they stay numbers, since the contracts promise those.
 #[derive(Clone, Copy, PartialEq, Eq, Debug)]
 pub struct Refusal {
     // the cause
@@ -10,6 +15,20 @@ pub struct Refusal {
     pub place: usize,
     // the place inside that place, 0 unless the cause is a line's
     pub inner: usize,
+}
+
+impl Refusal {
+    // A refusal with no place inside its place.
+    pub fn new(number: u8, part: u8, place: usize) -> Refusal
+        ensures { result ≡ refused number part place }
+    {
+        Refusal {
+            number,
+            part,
+            place,
+            inner: 0,
+        }
+    }
 }
 
 impl fmt::Display for Refusal {

@@ -1,6 +1,6 @@
 // Why a system file is refused.
 ghost use Rattle.std.specs.Prelude.{◌≡◌};
-ghost use Rattle.files.specs.SystemFault.{of_part_one, system_numbers};
+ghost use Rattle.files.specs.SystemFault.{system_numbers};
 ghost use Rattle.files.specs.declared.system_fault.SystemFault.TheVariants.{Memory};
 
 use crate::refusal::Refusal;
@@ -33,28 +33,17 @@ impl<T: Drop> From<AllocFailed<T>> for SystemFault {
     }
 }
 
-// A refusal by the system file, which is part 1.
-fn of_part_one(number: u8, place: usize) -> Refusal
-    ensures { result ≡ of_part_one number place }
-{
-    Refusal {
-        number,
-        part: 1,
-        place,
-        inner: 0,
-    }
-}
+// The system file is part 1.
+impl From<SystemFault> for Refusal {
+    ghost from_gives = { λ fault r. r ≡ system_numbers fault };
 
-impl SystemFault {
-    pub fn refusal(self) -> Refusal
-        ensures { result ≡ system_numbers self }
-    {
-        match self {
-            SystemFault::Sections(place) => of_part_one(2, place),
-            SystemFault::Size(place) => of_part_one(3, place),
-            SystemFault::Transition(place) => of_part_one(4, place),
-            SystemFault::Pattern(place) => of_part_one(5, place),
-            SystemFault::Memory => of_part_one(0, 0),
+    fn from(fault: SystemFault) -> Refusal {
+        match fault {
+            SystemFault::Sections(place) => Refusal::new(2, 1, place),
+            SystemFault::Size(place) => Refusal::new(3, 1, place),
+            SystemFault::Transition(place) => Refusal::new(4, 1, place),
+            SystemFault::Pattern(place) => Refusal::new(5, 1, place),
+            SystemFault::Memory => Refusal::new(0, 1, 0),
         }
     }
 }

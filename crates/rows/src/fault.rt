@@ -1,6 +1,6 @@
 // Why a folder turns a call down.
 ghost use Rattle.std.specs.Prelude.{◌≡◌};
-ghost use Rattle.rows.specs.Fault.{of_part_three, folder_numbers};
+ghost use Rattle.rows.specs.Fault.{folder_numbers};
 ghost use Rattle.rows.specs.declared.fault.FolderFault.TheVariants.{List};
 
 use files::list_fault::{LineFault, ListFault};
@@ -34,36 +34,25 @@ impl From<ListFault> for FolderFault {
     }
 }
 
-// A refusal by the folder, which is part 3.
-fn of_part_three(number: u8, place: usize) -> Refusal
-    ensures { result ≡ of_part_three number place 0 }
-{
-    Refusal {
-        number,
-        part: 3,
-        place,
-        inner: 0,
-    }
-}
+// The folder is part 3.
+impl From<FolderFault> for Refusal {
+    ghost from_gives = { λ fault r. r ≡ folder_numbers fault };
 
-impl FolderFault {
-    pub fn refusal(self) -> Refusal
-        ensures { result ≡ folder_numbers self }
-    {
-        match self {
-            FolderFault::Short(bytes) => of_part_three(1, bytes),
-            FolderFault::List(fault) => fault.refusal(),
+    fn from(fault: FolderFault) -> Refusal {
+        match fault {
+            FolderFault::Short(bytes) => Refusal::new(1, 3, bytes),
+            FolderFault::List(fault) => Refusal::from(fault),
             FolderFault::Line(fault) => Refusal {
                 number: 7,
                 part: 3,
                 place: 0,
                 inner: fault.inner(),
             },
-            FolderFault::NoLine(number) => of_part_three(8, number),
-            FolderFault::Unstorable(line) => of_part_three(9, line),
-            FolderFault::StartInside(line) => of_part_three(10, line),
-            FolderFault::Full(lines) => of_part_three(11, lines),
-            FolderFault::NothingStorable(lines) => of_part_three(12, lines),
+            FolderFault::NoLine(number) => Refusal::new(8, 3, number),
+            FolderFault::Unstorable(line) => Refusal::new(9, 3, line),
+            FolderFault::StartInside(line) => Refusal::new(10, 3, line),
+            FolderFault::Full(lines) => Refusal::new(11, 3, lines),
+            FolderFault::NothingStorable(lines) => Refusal::new(12, 3, lines),
         }
     }
 }
