@@ -1,48 +1,73 @@
 // A case: a machine, a system file, the calls, and what they are expected to print.
+use crate::session::session;
 use anyhow::anyhow;
-use console::decode;
+use board::{Machine, Record};
+use console::{Case, decode};
+use files::system::System;
+use queue::{LoadMessage, StoreMessage};
+use rules::{LoadBuffers, Plain, StoreBuffers};
 use std::alloc::Global;
 
 #[derive(Drop)]
-pub struct Case {
-    pub name: String,
-    pub machine: String,
-    pub system: Vec<u8>,
+pub struct BenchCase {
+    name: String,
+    machine: Machine,
+    system: Vec<u8>,
     // one call to a line
-    pub calls: String,
-    pub expected: String,
+    calls: String,
+    expected: String,
 }
 
-fn add_line(text: &mut String, line: &str) -> anyhow::Result<()> {
-    text.push_str(line)?;
-    text.push_str("\n")?;
-    Ok(())
+impl BenchCase {
+    // What the case prints.
+    fn printed(&self, heap: Global) -> anyhow::Result<String> {
+        let Ok(system) = System::read(heap, self.system.as_slice()) else {
+            return Err(anyhow!("a system that cannot be read"));
+        };
+        let calls = self.calls.as_str();
+        let mut stores = [StoreMessage::of(true, 0, 0); 64];
+        let mut loads = [LoadMessage::of(false, 0, 0); 64];
+        match self.machine {
+            Machine::StoreBuffers => session(heap, StoreBuffers, system, &mut stores, calls),
+            Machine::LoadBuffers => session(heap, LoadBuffers, system, &mut loads, calls),
+            Machine::Plain => session(heap, Plain, system, &mut loads, calls),
+        }
+    }
 }
 
-impl Case {
-    pub fn new(heap: Global) -> Case {
-        Case {
+impl Case for BenchCase {
+    // A case on store buffers, until its lines say otherwise.
+    fn new(heap: Global) -> BenchCase {
+        BenchCase {
             name: String::new(heap),
-            machine: String::new(heap),
+            machine: Machine::StoreBuffers,
             system: Vec::new(heap),
             calls: String::new(heap),
             expected: String::new(heap),
         }
     }
 
-    // Adds what one line of the text says.
-    pub fn add(&mut self, heap: Global, line: &str) -> anyhow::Result<()> {
+    fn add(&mut self, heap: Global, line: &str) -> anyhow::Result<()> {
         let Some((word, rest)) = line.split_once(' ') else {
             return Err(anyhow!("a line with no word and no rest"));
         };
         match word {
             "case" => self.name = String::from_str(heap, rest)?,
-            "machine" => self.machine = String::from_str(heap, rest)?,
+            "machine" => self.machine = rest.parse::<Machine>()?,
             "system" => self.system = decode(heap, rest)?,
-            "call" => add_line(&mut self.calls, rest)?,
-            ">" => add_line(&mut self.expected, rest)?,
+            "call" => writeln!(self.calls, "{rest}")?,
+            ">" => writeln!(self.expected, "{rest}")?,
             _ => return Err(anyhow!("an unknown word")),
         }
         Ok(())
+    }
+
+    fn agrees(&self, rt: &HostRuntime) -> anyhow::Result<bool> {
+        let text = self.printed(rt.alloc())?;
+        if text.as_str() == self.expected.as_str() {
+            return Ok(true);
+        }
+        println!(rt; "{} differs:\n{text}", self.name)?;
+        Ok(false)
     }
 }

@@ -1,75 +1,45 @@
 // Calls on one bench over 64 records, and what they print.
 use anyhow::anyhow;
-use bench::{Bench, BenchFault};
-use board::{Record, show_held, show_queues, show_refusal};
-use console::decode;
+use bench::{Bench, BenchFault, Look};
+use board::{Held, Queues, Record};
+use console::{Words, decode};
+use files::refusal::Refusal;
 use files::system::System;
 use rules::Rules;
 use script::run_script;
 use std::alloc::{AllocError, Global};
 
-// The first word of a call, and the rest.
-fn cut(text: &str) -> (&str, &str) {
-    match text.split_once(' ') {
-        Some(parts) => parts,
-        None => (text, ""),
-    }
-}
-
-// Two numbers.
-fn pair(text: &str) -> anyhow::Result<(usize, usize)> {
-    let (first, second) = cut(text);
-    Ok((first.parse::<usize>()?, second.parse::<usize>()?))
-}
-
 // `ok`, or the refusal.
-fn show_answer(
-    heap: Global,
-    out: &mut String,
-    answer: Result<(), BenchFault>,
-) -> Result<(), AllocError> {
+fn show_answer(out: &mut String, answer: Result<(), BenchFault>) -> Result<(), AllocError> {
     match answer {
         Ok(()) => out.push_str("ok\n"),
-        Err(fault) => show_refusal(heap, out, fault.refusal()),
+        Err(fault) => writeln!(out, "{}", Refusal::from(fault)),
     }
 }
 
 // Each record that is not zero: place, own mark, variable and value.
-fn show_records<M: Record + Copy>(
-    heap: Global,
-    out: &mut String,
-    records: &[M],
-) -> Result<(), AllocError> {
+fn show_records<M: Record>(out: &mut String, records: &[M]) -> Result<(), AllocError> {
     out.push_str("records")?;
     for (place, record) in records.iter().enumerate() {
-        let own = if record.mark() { 1 } else { 0 };
-        let (variable, value) = (record.variable(), record.value());
-        if own + variable.min(1) + value.min(1) == 0 {
-            continue;
+        let (own, variable, value) = (record.mark(), record.variable(), record.value());
+        if own || variable > 0 || value > 0 {
+            write!(out, " {place}:{},{variable},{value}", u8::from(own))?;
         }
-        let text = format!(in heap; " {place}:{own},{variable},{value}")?;
-        out.push_str(text.as_str())?;
     }
     out.push_str("\n")
 }
 
-// The bytes of a script; `-` is none.
-fn script_of(heap: Global, text: &str) -> anyhow::Result<Vec<u8>> {
-    if text == "-" {
-        return Ok(Vec::new(heap));
-    }
-    decode(heap, text)
-}
-
 // Puts a record into its place.
-fn poke<M: Record + Copy>(records: &mut [M], text: &str) -> anyhow::Result<()> {
-    let (place, rest) = cut(text);
-    let (own, rest) = cut(rest);
-    let (variable, value) = cut(rest);
-    let place = place.parse::<usize>()?;
-    let record = M::of(own == "1", variable.parse::<u8>()?, value.parse::<u8>()?);
-    if place < records.len() {
-        records[place] = record;
+fn poke<M: Record + Copy>(records: &mut [M], words: &mut Words) -> anyhow::Result<()> {
+    let place = words.number()?;
+    let own = words.word() == "1";
+    let record = M::of(
+        own,
+        words.word().parse::<u8>()?,
+        words.word().parse::<u8>()?,
+    );
+    if let Some(at) = records.get_mut(place) {
+        *at = record;
     }
     Ok(())
 }
@@ -92,26 +62,26 @@ fn call<M: Record + Copy, R: Rules<Record = M>>(
     bench: &mut Bench<R>,
     records: &mut [M],
     verb: &str,
-    rest: &str,
+    words: &mut Words,
 ) -> anyhow::Result<Result<(), BenchFault>> {
     let most = records.len();
     match verb {
         "begin" => {
-            let count = rest.parse::<usize>()?.min(most);
+            let count = words.number()?.min(most);
             Ok(bench.begin(&mut records[0..count]))
         }
         "play" => {
-            let (number, count) = pair(rest)?;
-            Ok(bench.play(&mut records[0..count.min(most)], number))
+            let number = words.number()?;
+            let count = words.number()?.min(most);
+            Ok(bench.play(&mut records[0..count], number))
         }
         "script" => {
-            let (hex, count) = cut(rest);
-            let script = script_of(heap, hex)?;
-            let count = count.parse::<usize>()?.min(most);
+            let script = decode(heap, words.word())?;
+            let count = words.number()?.min(most);
             Ok(script_on(bench, &mut records[0..count], script.as_slice()))
         }
         "poke" => {
-            poke(records, rest)?;
+            poke(records, words)?;
             Ok(Ok(()))
         }
         "look" => Ok(Ok(())),
@@ -119,22 +89,28 @@ fn call<M: Record + Copy, R: Rules<Record = M>>(
     }
 }
 
+// All that the bench holds.
+fn show_all<M: Record>(out: &mut String, look: Look, records: &[M]) -> Result<(), AllocError> {
+    let queues = Queues {
+        look,
+        records,
+        in_words: false,
+    };
+    write!(out, "{}{queues}", Held(look))
+}
+
 // Plays one script from the start: the refusal, if there is one, and all that is held.
 fn whole<M: Record + Copy, R: Rules<Record = M>>(
-    heap: Global,
     out: &mut String,
     bench: &mut Bench<R>,
     records: &mut [M],
-    hex: &str,
-) -> anyhow::Result<()> {
-    let script = script_of(heap, hex)?;
+    script: &[u8],
+) -> Result<(), AllocError> {
     let _ = bench.begin(records);
-    if let Err(fault) = script_on(bench, records, script.as_slice()) {
-        show_refusal(heap, out, fault.refusal())?;
+    if let Err(fault) = script_on(bench, records, script) {
+        writeln!(out, "{}", Refusal::from(fault))?;
     }
-    show_held(heap, out, bench.look())?;
-    show_queues(heap, out, bench.look(), records, false)?;
-    Ok(())
+    show_all(out, bench.look(), records)
 }
 
 // What the calls print, over the records.
@@ -149,18 +125,20 @@ pub fn session<M: Record + Copy, R: Rules<Record = M> + Drop>(
     let mut bench = Bench::new(rules, system);
     let mut begun = false;
     for line in calls.lines() {
-        let (verb, rest) = cut(line);
+        let mut words = Words { rest: line };
+        let verb = words.word();
         if verb == "whole" {
-            whole(heap, &mut out, &mut bench, records, rest)?;
+            let script = decode(heap, words.word())?;
+            whole(&mut out, &mut bench, records, script.as_slice())?;
             continue;
         }
-        let answer = call(heap, &mut bench, records, verb, rest)?;
-        show_answer(heap, &mut out, answer)?;
+        let answer = call(heap, &mut bench, records, verb, &mut words)?;
+        show_answer(&mut out, answer)?;
         begun = begun || verb == "begin";
         if begun {
-            show_held(heap, &mut out, bench.look())?;
+            write!(out, "{}", Held(bench.look()))?;
         }
-        show_records(heap, &mut out, records)?;
+        show_records(&mut out, records)?;
     }
     Ok(out)
 }

@@ -38,7 +38,7 @@ fn of_load(
 ) -> Option<Refusal> {
     match run_script(bench, records, script) {
         Ok(_) => None,
-        Err(stop) => Some(stop.fault.refusal()),
+        Err(stop) => Some(Refusal::from(stop.fault)),
     }
 }
 
@@ -81,7 +81,7 @@ fn nine_stores(rt: HostRuntime) -> Result<(), Fail> {
         return Err(Fail::new("nine stores"));
     };
     assert!(rt; stop.line == 8);
-    assert_eq!(rt; Some(stop.fault.refusal()), part_four(15, 0));
+    assert_eq!(rt; Some(Refusal::from(stop.fault)), part_four(15, 0));
     assert!(rt; bench.look().memory == [0].as_slice() && records[8].value == 0);
     assert!(rt; run_script(&mut bench, &mut records, b"u 0\na 0\n").is_ok());
     assert!(rt; bench.look().lengths == [0].as_slice() && bench.look().memory == [1].as_slice());
@@ -170,6 +170,6 @@ fn plain_needs_no_records(rt: HostRuntime) -> Result<(), Fail> {
     let Err(stop) = run_script(&mut bench, &mut records, b"a 1\n") else {
         return Err(Fail::new("a process too many"));
     };
-    assert_eq!(rt; Some(stop.fault.refusal()), part_four(14, 89));
+    assert_eq!(rt; Some(Refusal::from(stop.fault)), part_four(14, 89));
     Ok(())
 }

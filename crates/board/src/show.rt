@@ -1,87 +1,76 @@
-// Lines of text.
+// What a bench holds, as text.
 use crate::record::Record;
 use bench::Look;
-use files::refusal::Refusal;
-use std::alloc::{AllocError, Global};
+use std::fmt;
 
-// A refusal in its four numbers.
-pub fn show_refusal(heap: Global, out: &mut String, refusal: Refusal) -> Result<(), AllocError> {
-    let line = format!(in heap; "{refusal}\n")?;
-    out.push_str(line.as_str())
-}
-
-// A word and a line of numbers.
-fn show_bytes(heap: Global, out: &mut String, word: &str, bytes: &[u8]) -> Result<(), AllocError> {
-    out.push_str(word)?;
-    for byte in bytes {
-        let byte = *byte;
-        let text = format!(in heap; " {byte}")?;
-        out.push_str(text.as_str())?;
+// A word and the numbers behind it, on a line.
+fn write_numbers<W: fmt::Write, N: fmt::Display>(
+    f: &mut fmt::Formatter<W>,
+    word: &str,
+    numbers: &[N],
+) -> fmt::Result {
+    f.write_str(word)?;
+    for number in numbers {
+        write!(f, " {number}")?;
     }
-    out.push_str("\n")
+    f.write_str("\n")
 }
 
-// States, memory and queue lengths.
-pub fn show_held(heap: Global, out: &mut String, look: Look) -> Result<(), AllocError> {
-    show_bytes(heap, out, "states", look.states)?;
-    show_bytes(heap, out, "memory", look.memory)?;
-    out.push_str("lengths")?;
-    for length in look.lengths {
-        let length = *length;
-        let text = format!(in heap; " {length}")?;
-        out.push_str(text.as_str())?;
+// States, memory and queue lengths, a line each.
+#[derive(Clone, Copy)]
+pub struct Held<'a>(pub Look<'a>);
+
+impl<'a> fmt::Display for Held<'a> {
+    fn fmt<W: fmt::Write>(&self, f: &mut fmt::Formatter<W>) -> fmt::Result {
+        write_numbers(f, "states", self.0.states)?;
+        write_numbers(f, "memory", self.0.memory)?;
+        write_numbers(f, "lengths", self.0.lengths)
     }
-    out.push_str("\n")
 }
 
-// The bytes of a queue's messages, oldest first.
-fn show_queue<M: Record + Copy>(
-    heap: Global,
-    out: &mut String,
+// The queues, eight places a process: a line each with the bytes of the messages, oldest first; in words too, if that is
+// asked.
+#[derive(Clone, Copy)]
+pub struct Queues<'a, M> {
+    pub look: Look<'a>,
+    pub records: &'a [M],
+    pub in_words: bool,
+}
+
+// The bytes of a queue's messages.
+fn write_queue<W: fmt::Write, M: Record>(
+    f: &mut fmt::Formatter<W>,
     process: usize,
     queue: &[M],
-) -> Result<(), AllocError> {
-    let word = format!(in heap; "queue {process}")?;
-    out.push_str(word.as_str())?;
+) -> fmt::Result {
+    write!(f, "queue {process}")?;
     for message in queue {
-        let byte = message.byte();
-        let text = format!(in heap; " {byte:02X}")?;
-        out.push_str(text.as_str())?;
+        write!(f, " {:02X}", message.byte())?;
     }
-    out.push_str("\n")
+    f.write_str("\n")
 }
 
 // The messages of a queue in words, a line each.
-fn show_words<M: Record + Copy>(
-    heap: Global,
-    out: &mut String,
-    queue: &[M],
-) -> Result<(), AllocError> {
+fn write_words<W: fmt::Write, M: Record>(f: &mut fmt::Formatter<W>, queue: &[M]) -> fmt::Result {
     for message in queue {
         let (variable, value) = (message.variable(), message.value());
         let whose = if message.is_own() { "own" } else { "seen" };
-        let text = format!(in heap; "  {whose}: variable {variable}, value {value}\n")?;
-        out.push_str(text.as_str())?;
+        writeln!(f, "  {whose}: variable {variable}, value {value}")?;
     }
     Ok(())
 }
 
-// The queues, eight places a process; in words too, if that is asked.
-pub fn show_queues<M: Record + Copy>(
-    heap: Global,
-    out: &mut String,
-    look: Look,
-    records: &[M],
-    words: bool,
-) -> Result<(), AllocError> {
-    for (process, length) in look.lengths.iter().enumerate() {
-        let at = process.saturating_mul(8).min(records.len());
-        let end = at.saturating_add(*length).min(records.len());
-        let queue = &records[at..end];
-        show_queue(heap, out, process, queue)?;
-        if words {
-            show_words(heap, out, queue)?;
+impl<'a, M: Record> fmt::Display for Queues<'a, M> {
+    fn fmt<W: fmt::Write>(&self, f: &mut fmt::Formatter<W>) -> fmt::Result {
+        for (process, length) in self.look.lengths.iter().enumerate() {
+            let at = process.saturating_mul(8).min(self.records.len());
+            let end = at.saturating_add(*length).min(self.records.len());
+            let queue = &self.records[at..end];
+            write_queue(f, process, queue)?;
+            if self.in_words {
+                write_words(f, queue)?;
+            }
         }
+        Ok(())
     }
-    Ok(())
 }

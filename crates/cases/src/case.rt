@@ -1,19 +1,20 @@
 // A case: its two files, and what the check is expected to print.
-use crate::hex::decode;
 use anyhow::anyhow;
+use console::{Case, decode};
+use report::check;
 use std::alloc::Global;
 
 #[derive(Drop)]
-pub struct Case {
-    pub name: String,
-    pub system: Vec<u8>,
-    pub list: Vec<u8>,
-    pub expected: String,
+pub struct CheckCase {
+    name: String,
+    system: Vec<u8>,
+    list: Vec<u8>,
+    expected: String,
 }
 
-impl Case {
-    pub fn new(heap: Global) -> Case {
-        Case {
+impl Case for CheckCase {
+    fn new(heap: Global) -> CheckCase {
+        CheckCase {
             name: String::new(heap),
             system: Vec::new(heap),
             list: Vec::new(heap),
@@ -21,8 +22,7 @@ impl Case {
         }
     }
 
-    // Adds what one line of the text says.
-    pub fn add(&mut self, heap: Global, line: &str) -> anyhow::Result<()> {
+    fn add(&mut self, heap: Global, line: &str) -> anyhow::Result<()> {
         let Some((word, rest)) = line.split_once(' ') else {
             return Err(anyhow!("a line with no word and no rest"));
         };
@@ -30,12 +30,19 @@ impl Case {
             "case" => self.name = String::from_str(heap, rest)?,
             "system" => self.system = decode(heap, rest)?,
             "list" => self.list = decode(heap, rest)?,
-            ">" => {
-                self.expected.push_str(rest)?;
-                self.expected.push_str("\n")?;
-            }
+            ">" => writeln!(self.expected, "{rest}")?,
             _ => return Err(anyhow!("an unknown word")),
         }
         Ok(())
+    }
+
+    fn agrees(&self, rt: &HostRuntime) -> anyhow::Result<bool> {
+        let outcome = check(rt.alloc(), self.system.as_slice(), self.list.as_slice())?;
+        let printed = format!(in rt.alloc(); "{outcome}\n")?;
+        if printed.as_str() == self.expected.as_str() {
+            return Ok(true);
+        }
+        println!(rt; "{} differs:\n{printed}", self.name)?;
+        Ok(false)
     }
 }

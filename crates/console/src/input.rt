@@ -3,12 +3,7 @@ use std::{env, fs};
 
 // The folder that word `number` of the call names, counted from 0 for the program; this one if there is no such word.
 pub fn folder_named(rt: &HostRuntime, number: usize) -> anyhow::Result<String> {
-    let mut words = env::args(rt)?;
-    let mut word = words.next();
-    for _ in 0..number {
-        word = words.next();
-    }
-    match word {
+    match env::args(rt)?.nth(number) {
         Some(folder) => Ok(folder),
         None => Ok(String::from_str(rt.alloc(), ".")?),
     }

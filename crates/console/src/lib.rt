@@ -1,8 +1,12 @@
-// What the programs share: the words they are called with, the files of a folder, and bytes as text.
+// What the programs share: the words they are called with, the files of a folder, bytes as text, and texts of cases.
 #![tactic(auto)]
 
-mod hex;
+mod cases;
+mod digits;
 mod input;
+mod words;
 
-pub use hex::{Hex, decode};
+pub use cases::{Case, Tally, run_cases};
+pub use digits::{Hex, decode};
 pub use input::{folder_named, read};
+pub use words::Words;

@@ -11,7 +11,7 @@ use std::test::Fail;
 fn refusal_of(bytes: &[u8]) -> Option<Refusal> {
     match ListReader::open(bytes) {
         Ok(_) => None,
-        Err(fault) => Some(fault.refusal()),
+        Err(fault) => Some(Refusal::from(fault)),
     }
 }
 
@@ -111,9 +111,9 @@ fn each_refusal(rt: HostRuntime) -> Result<(), Fail> {
         let bytes = bytes_of(rt.alloc(), text)?;
         assert_eq!(rt; refusal_of(bytes.as_slice()), directory(place), "{}", text);
     }
-    let byte = ListFault::Line(3, LineFault::Byte(5)).refusal();
+    let byte = Refusal::from(ListFault::Line(3, LineFault::Byte(5)));
     assert!(rt; byte.number == 7 && byte.part == 2 && byte.place == 3 && byte.inner == 5);
-    let early = ListFault::Line(4, LineFault::Early(2)).refusal();
+    let early = Refusal::from(ListFault::Line(4, LineFault::Early(2)));
     assert!(rt; early.number == 7 && early.part == 2 && early.place == 4 && early.inner == 2);
     Ok(())
 }

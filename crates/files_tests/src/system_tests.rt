@@ -17,7 +17,7 @@ const LARGE: &str =
 fn refusal_of(heap: Global, bytes: &[u8]) -> Option<Refusal> {
     match System::read(heap, bytes) {
         Ok(_) => None,
-        Err(fault) => Some(fault.refusal()),
+        Err(fault) => Some(Refusal::from(fault)),
     }
 }
 
@@ -173,6 +173,6 @@ fn each_refusal(rt: HostRuntime) -> Result<(), Fail> {
             text
         );
     }
-    assert_eq!(rt; Some(SystemFault::Memory.refusal()), part_one(0, 0));
+    assert_eq!(rt; Some(Refusal::from(SystemFault::Memory)), part_one(0, 0));
     Ok(())
 }

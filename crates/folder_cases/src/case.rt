@@ -1,28 +1,12 @@
 // A case: what it asks for, and the lines that it expects.
-use crate::request::Request;
+use crate::kind::{Kind, Over};
+use crate::run::run_case;
 use anyhow::anyhow;
-use console::decode;
+use console::{Case, decode};
 use std::alloc::Global;
 
-#[derive(Clone, Copy)]
-pub enum Kind {
-    // take the list in and judge it
-    Check,
-    // take the list in, grow as often as asked or until no line is added, and judge
-    Grow,
-    // answer the requests, one after another
-    Session,
-}
-
-// The machine that it runs over.
-#[derive(Clone, Copy)]
-pub enum Over {
-    LoadBuffers,
-    Plain,
-}
-
 #[derive(Drop)]
-pub struct Case {
+pub struct FolderCase {
     pub name: String,
     pub kind: Kind,
     pub over: Over,
@@ -31,31 +15,47 @@ pub struct Case {
     pub system: Vec<u8>,
     pub list: Vec<u8>,
     pub grows: usize,
-    pub requests: Vec<Request>,
+    // one request to a line
+    pub requests: Vec<String>,
     pub expected: Vec<String>,
 }
 
-fn kind_of(word: &str) -> anyhow::Result<Kind> {
-    match word {
-        "check" => Ok(Kind::Check),
-        "grow" => Ok(Kind::Grow),
-        "session" => Ok(Kind::Session),
-        _ => Err(anyhow!("an unknown kind")),
+impl FolderCase {
+    // The expected line of a number; the empty one past the last.
+    pub fn expected_line(&self, number: usize) -> &str {
+        self.expected.get(number).map_or("", |line| line.as_str())
+    }
+
+    // Whether the lines are the expected ones.
+    fn expects(&self, lines: &[String]) -> bool {
+        lines.len() == self.expected.len()
+            && lines.iter().zip(self.expected.iter()).all(|(line, expected)| line_agrees(
+                self.free,
+                line.as_str(),
+                expected.as_str(),
+            ))
     }
 }
 
-fn machine_of(word: &str) -> anyhow::Result<Over> {
-    match word {
-        "load" => Ok(Over::LoadBuffers),
-        "plain" => Ok(Over::Plain),
-        _ => Err(anyhow!("an unknown machine")),
+// A free witness is only as long as the expected one.
+fn line_agrees(free: bool, line: &str, expected: &str) -> bool {
+    if free && line.starts_with("witness ") && expected.starts_with("witness ") {
+        return line.len() == expected.len();
     }
+    line == expected
 }
 
-impl Case {
+fn print_lines(rt: &HostRuntime, lines: &[String]) -> anyhow::Result<()> {
+    for line in lines {
+        println!(rt; "{line}")?;
+    }
+    Ok(())
+}
+
+impl Case for FolderCase {
     // A check over load buffers, until its lines say otherwise.
-    pub fn new(heap: Global) -> Case {
-        Case {
+    fn new(heap: Global) -> FolderCase {
+        FolderCase {
             name: String::new(heap),
             kind: Kind::Check,
             over: Over::LoadBuffers,
@@ -68,52 +68,32 @@ impl Case {
         }
     }
 
-    // Adds what one line of the text says.
-    pub fn add(&mut self, heap: Global, line: &str) -> anyhow::Result<()> {
-        let (word, rest) = match line.split_once(' ') {
-            Some(parts) => parts,
-            None => (line, ""),
-        };
+    fn add(&mut self, heap: Global, line: &str) -> anyhow::Result<()> {
+        let (word, rest) = line.split_once(' ').unwrap_or((line, ""));
         match word {
             "case" => self.name = String::from_str(heap, rest)?,
-            "kind" => self.kind = kind_of(rest)?,
-            "machine" => self.over = machine_of(rest)?,
+            "kind" => self.kind = rest.parse::<Kind>()?,
+            "machine" => self.over = rest.parse::<Over>()?,
             "free" => self.free = true,
             "system" => self.system = decode(heap, rest)?,
             "list" => self.list = decode(heap, rest)?,
             "grows" => self.grows = rest.parse::<usize>()?,
-            "call" => self.requests.push(Request::read(heap, rest)?)?,
+            "call" => self.requests.push(String::from_str(heap, rest)?)?,
             ">" => self.expected.push(String::from_str(heap, rest)?)?,
             _ => return Err(anyhow!("an unknown word")),
         }
         Ok(())
     }
 
-    // The expected line of a number; the empty one past the last.
-    pub fn expected_line(&self, number: usize) -> &str {
-        match self.expected.get(number) {
-            Some(line) => line.as_str(),
-            None => "",
+    fn agrees(&self, rt: &HostRuntime) -> anyhow::Result<bool> {
+        let lines = run_case(rt.alloc(), self)?;
+        if self.expects(lines.as_slice()) {
+            return Ok(true);
         }
+        println!(rt; "{} differs:", self.name)?;
+        print_lines(rt, lines.as_slice())?;
+        println!(rt; "expected:")?;
+        print_lines(rt, self.expected.as_slice())?;
+        Ok(false)
     }
-
-    // Whether the lines are the expected ones. A free witness is only as long as the expected one.
-    pub fn agrees(&self, lines: &[String]) -> bool {
-        if lines.len() != self.expected.len() {
-            return false;
-        }
-        for (line, expected) in lines.iter().zip(self.expected.iter()) {
-            if !line_agrees(self.free, line.as_str(), expected.as_str()) {
-                return false;
-            }
-        }
-        true
-    }
-}
-
-fn line_agrees(free: bool, line: &str, expected: &str) -> bool {
-    if free && line.starts_with("witness ") && expected.starts_with("witness ") {
-        return line.len() == expected.len();
-    }
-    line == expected
 }

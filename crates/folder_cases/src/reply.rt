@@ -28,33 +28,22 @@ impl Reply {
     }
 
     pub fn is_refusal(&self) -> bool {
-        match self {
-            Reply::Refused(_) => true,
-            _ => false,
-        }
+        matches!(self, Reply::Refused(_))
     }
 
     // Whether a line was grown.
     pub fn is_added(&self) -> bool {
-        match self {
-            Reply::Added(_) => true,
-            _ => false,
-        }
+        matches!(self, Reply::Added(_))
     }
 
     // Whether the witness holds a row.
     pub fn has_witness(&self) -> bool {
-        match self {
-            Reply::Ruled(Verdict::Bad) => true,
-            Reply::Ruled(Verdict::Leak(_, _)) => true,
-            _ => false,
-        }
+        matches!(self, Reply::Ruled(Verdict::Bad | Verdict::Leak(_, _)))
     }
 }
 
 fn write_bytes<W: fmt::Write>(f: &mut fmt::Formatter<W>, word: &str, bytes: &[u8]) -> fmt::Result {
-    let bytes = Hex(bytes);
-    write!(f, "{word} {bytes}")
+    write!(f, "{word} {}", Hex(bytes))
 }
 
 impl fmt::Display for Reply {
@@ -65,11 +54,7 @@ impl fmt::Display for Reply {
             Reply::Nothing => write!(f, "none"),
             Reply::Ruled(verdict) => write!(f, "{verdict}"),
             Reply::Row(row) => write_bytes(f, "row", row.as_slice()),
-            Reply::File(file) => {
-                let len = file.len();
-                write!(f, "file {len} ")?;
-                write!(f, "{}", Hex(file.as_slice()))
-            }
+            Reply::File(file) => write!(f, "file {} {}", file.len(), Hex(file.as_slice())),
             Reply::Bytes(bytes) => write_bytes(f, "bytes", bytes.as_slice()),
             Reply::Refused(refusal) => write!(f, "{refusal}"),
         }

@@ -1,13 +1,17 @@
 // One folder and the bytes that are lent to its calls.
+ghost use Rattle.std.specs.Prelude.{◌<◌};
+
 use crate::reply::Reply;
-use crate::request::{BYTES, OwnCall, OwnDeed, Request};
 use anyhow::anyhow;
-use console::{Hex, decode};
+use console::{Hex, Words, decode};
 use folder::Folder;
-use ledger::{Answer, play};
+use ledger::{Answer, Call, Deed, play};
 use machines::{Machine, OrderedRow};
 use rows::WIDEST;
 use std::alloc::{AllocError, Global};
+
+// Memory has so many bytes, and no strip, witness, row or list file needs more.
+const BYTES: usize = 65_536;
 
 #[derive(Drop)]
 pub struct Session<M> {
@@ -19,23 +23,30 @@ pub struct Session<M> {
 
 // The first bytes, as many as asked for and there are.
 fn part(bytes: &[u8], len: usize) -> &[u8] {
-    let len = len.min(bytes.len());
-    &bytes[0..len]
+    &bytes[..len.min(bytes.len())]
 }
 
 // The bytes from a place on.
 fn behind(bytes: &[u8], at: usize) -> &[u8] {
-    let at = at.min(bytes.len());
-    &bytes[at..]
+    &bytes[at.min(bytes.len())..]
 }
 
 // Writes bytes from a place on, as many as fit.
 fn poke(memory: &mut [u8], at: usize, bytes: &[u8]) {
-    for i in 0..bytes.len() {
-        if let Some(place) = memory.get_mut(at.saturating_add(i)) {
-            *place = bytes[i];
-        }
+    let at = at.min(memory.len());
+    for (place, byte) in memory[at..].iter_mut().zip(bytes) {
+        *place = *byte;
     }
+}
+
+// A call of a deed that needs neither strip nor witness.
+fn change<'a>(deed: Deed<'a>, words: &mut Words) -> anyhow::Result<Call<'a>> {
+    Ok(Call {
+        deed,
+        memory: words.number()?,
+        strip: 0,
+        witness: 0,
+    })
 }
 
 impl<M: Machine + Drop> Session<M> {
@@ -55,7 +66,9 @@ impl<M: Machine> Session<M> {
         self.folder.count()
     }
 
-    fn width(&self) -> usize {
+    fn width(&self) -> usize
+        ensures { 0 < result }
+    {
         self.folder.machine().row_len()
     }
 
@@ -80,14 +93,13 @@ impl<M: Machine> Session<M> {
             Answer::Grew(Ok(true)) => Ok(Reply::Added(self.last_line(heap)?)),
             Answer::Grew(Ok(false)) => Ok(Reply::Nothing),
             Answer::Ruled(Ok(verdict)) => Ok(Reply::Ruled(verdict)),
-            Answer::Changed(Err(fault)) => Ok(Reply::Refused(fault.refusal())),
-            Answer::Grew(Err(fault)) => Ok(Reply::Refused(fault.refusal())),
-            Answer::Ruled(Err(fault)) => Ok(Reply::Refused(fault.refusal())),
+            Answer::Changed(Err(fault)) => Ok(Reply::Refused(fault.into())),
+            Answer::Grew(Err(fault)) => Ok(Reply::Refused(fault.into())),
+            Answer::Ruled(Err(fault)) => Ok(Reply::Refused(fault.into())),
         }
     }
 
-    fn play(&mut self, heap: Global, own: &OwnCall) -> anyhow::Result<Reply> {
-        let call = own.call();
+    fn play(&mut self, heap: Global, call: Call) -> anyhow::Result<Reply> {
         let answer = play(
             &mut self.folder,
             &call,
@@ -99,52 +111,87 @@ impl<M: Machine> Session<M> {
     }
 
     // Plays a deed with all bytes.
-    pub fn play_amply(&mut self, heap: Global, deed: OwnDeed) -> anyhow::Result<Reply> {
-        let call = OwnCall::ample(deed);
-        self.play(heap, &call)
+    pub fn play_amply(&mut self, heap: Global, deed: Deed) -> anyhow::Result<Reply> {
+        let call = Call {
+            deed,
+            memory: BYTES,
+            strip: BYTES,
+            witness: BYTES,
+        };
+        self.play(heap, call)
     }
 
-    fn show(
-        &self,
-        heap: Global,
-        number: usize,
-        memory: usize,
-        place: usize,
-    ) -> anyhow::Result<Reply> {
-        let mut place = vec![in heap; 0; place.min(BYTES)]?;
-        let memory = part(&self.memory, memory);
+    fn grow(&mut self, heap: Global, words: &mut Words) -> anyhow::Result<Reply> {
+        let call = Call {
+            deed: Deed::Grow,
+            memory: words.number()?,
+            strip: words.number()?,
+            witness: 0,
+        };
+        self.play(heap, call)
+    }
+
+    fn judge(&mut self, heap: Global, words: &mut Words) -> anyhow::Result<Reply> {
+        let call = Call {
+            deed: Deed::Judge,
+            memory: words.number()?,
+            strip: words.number()?,
+            witness: words.number()?,
+        };
+        self.play(heap, call)
+    }
+
+    // Shows the row of a line.
+    fn show(&self, heap: Global, words: &mut Words) -> anyhow::Result<Reply> {
+        let number = words.number()?;
+        let memory = part(&self.memory, words.number()?);
+        let mut place = vec![in heap; 0; words.number()?.min(BYTES)]?;
         match self.folder.show(memory, number, &mut place) {
             Ok(()) => Ok(Reply::Row(part(&place, self.width()).to_vec(heap)?)),
-            Err(fault) => Ok(Reply::Refused(fault.refusal())),
+            Err(fault) => Ok(Reply::Refused(fault.into())),
         }
     }
 
-    fn write_out(&self, heap: Global, memory: usize, place: usize) -> anyhow::Result<Reply> {
-        let mut place = vec![in heap; 0; place.min(BYTES)]?;
-        let memory = part(&self.memory, memory);
+    // Writes all lines out.
+    fn write_out(&self, heap: Global, words: &mut Words) -> anyhow::Result<Reply> {
+        let memory = part(&self.memory, words.number()?);
+        let mut place = vec![in heap; 0; words.number()?.min(BYTES)]?;
         match self.folder.write_out(memory, &mut place) {
             Ok(len) => Ok(Reply::File(part(&place, len).to_vec(heap)?)),
-            Err(fault) => Ok(Reply::Refused(fault.refusal())),
+            Err(fault) => Ok(Reply::Refused(fault.into())),
         }
     }
 
-    pub fn answer(&mut self, heap: Global, request: &Request) -> anyhow::Result<Reply> {
-        match request {
-            Request::Play(call) => self.play(heap, call),
-            Request::Show {
-                number,
-                memory,
-                place,
-            } => self.show(heap, *number, *memory, *place),
-            Request::WriteOut { memory, place } => self.write_out(heap, *memory, *place),
-            Request::Poke { at, bytes } => {
-                poke(&mut self.memory, *at, bytes.as_slice());
+    // The answer to a request, which is a word and what goes with it.
+    pub fn answer(&mut self, heap: Global, request: &str) -> anyhow::Result<Reply> {
+        let mut words = Words { rest: request };
+        match words.word() {
+            "enter" => {
+                let line = decode(heap, words.word())?;
+                self.play(heap, change(Deed::Enter(line.as_slice()), &mut words)?)
+            }
+            "takein" => {
+                let file = decode(heap, words.word())?;
+                self.play(heap, change(Deed::TakeIn(file.as_slice()), &mut words)?)
+            }
+            "strike" => {
+                let number = words.number()?;
+                self.play(heap, change(Deed::Strike(number), &mut words)?)
+            }
+            "grow" => self.grow(heap, &mut words),
+            "judge" => self.judge(heap, &mut words),
+            "show" => self.show(heap, &mut words),
+            "writeout" => self.write_out(heap, &mut words),
+            "poke" => {
+                let at = words.number()?;
+                poke(&mut self.memory, at, decode(heap, words.word())?.as_slice());
                 Ok(Reply::Done)
             }
-            Request::Dump { at, len } => {
-                let bytes = part(behind(&self.memory, *at), *len);
-                Ok(Reply::Bytes(bytes.to_vec(heap)?))
+            "dump" => {
+                let bytes = behind(&self.memory, words.number()?);
+                Ok(Reply::Bytes(part(bytes, words.number()?).to_vec(heap)?))
             }
+            _ => Err(anyhow!("an unknown request")),
         }
     }
 
@@ -158,8 +205,8 @@ impl<M: Machine> Session<M> {
             return Ok(grown);
         }
         let last = self.count().saturating_sub(1);
-        let _struck = self.play_amply(heap, OwnDeed::Strike(last))?;
-        let entered = self.play_amply(heap, OwnDeed::Enter(expected))?;
+        let _struck = self.play_amply(heap, Deed::Strike(last))?;
+        let entered = self.play_amply(heap, Deed::Enter(expected.as_slice()))?;
         if entered.is_refusal() {
             return Ok(entered);
         }
@@ -168,19 +215,15 @@ impl<M: Machine> Session<M> {
 
     // The line of the witness that the last verdict left.
     pub fn witness_line(&self, heap: Global) -> anyhow::Result<String> {
-        let row = Hex(part(&self.witness, self.width()));
-        Ok(format!(in heap; "witness {row}")?)
+        Ok(format!(in heap; "witness {}", Hex(part(&self.witness, self.width())))?)
     }
 
     // The line of the rows that stand.
     pub fn rows_line(&self, heap: Global) -> anyhow::Result<String> {
         let count = self.count();
         let mut text = format!(in heap; "rows {count}")?;
-        let width = self.width();
-        for i in 0..count {
-            let row = Hex(part(behind(&self.memory, i.saturating_mul(width)), width));
-            let word = format!(in heap; " {row}")?;
-            text.push_str(word.as_str())?;
+        for row in self.memory.chunks_exact(self.width()).take(count) {
+            write!(text, " {}", Hex(row))?;
         }
         Ok(text)
     }

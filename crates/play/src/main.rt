@@ -3,9 +3,10 @@
 #![tactic(auto)]
 
 use anyhow::anyhow;
-use bench::Bench;
-use board::{Record, show_held, show_queues, show_refusal};
+use bench::{Bench, Look};
+use board::{Held, Machine, Queues, Record, UnknownMachine};
 use console::{folder_named, read};
+use files::refusal::Refusal;
 use files::system::System;
 use files::system_fault::SystemFault;
 use queue::{LoadMessage, StoreMessage};
@@ -14,25 +15,25 @@ use script::run_script;
 use std::alloc::{AllocError, Global};
 use std::env;
 
-// The first lines of a script, which were played.
-fn show_played(out: &mut String, script: &[u8], lines: usize) -> Result<(), AllocError> {
-    let mut left = lines;
-    let mut begun = false;
-    for byte in script {
-        if left == 0 {
-            break;
-        }
-        if !begun {
-            out.push_str("played ")?;
-            begun = true;
-        }
-        out.push(char::from(*byte))?;
-        if *byte == b'\n' {
-            left -= 1;
-            begun = false;
+// The first lines of a script, which were played. Bytes that are no text stand in the line as they are.
+fn write_played(out: &mut String, script: &[u8], lines: usize) -> Result<(), AllocError> {
+    for line in script.split_inclusive(|byte| *byte == b'\n').take(lines) {
+        out.push_str("played ")?;
+        for byte in line {
+            out.push(char::from(*byte))?;
         }
     }
     Ok(())
+}
+
+// What the bench holds, with the messages in words.
+fn write_held<M: Record>(out: &mut String, look: Look, records: &[M]) -> Result<(), AllocError> {
+    let queues = Queues {
+        look,
+        records,
+        in_words: true,
+    };
+    write!(out, "{}{queues}", Held(look))
 }
 
 // Plays the script from the start, and says what was played, where it stopped and what the bench holds then.
@@ -46,14 +47,13 @@ fn play_on<M: Record + Copy, R: Rules<Record = M> + Drop>(
     let mut out = String::new(heap);
     let mut bench = Bench::new(rules, system);
     match run_script(&mut bench, records, script) {
-        Ok(lines) => show_played(&mut out, script, lines)?,
+        Ok(lines) => write_played(&mut out, script, lines)?,
         Err(stop) => {
-            show_played(&mut out, script, stop.line)?;
-            show_refusal(heap, &mut out, stop.fault.refusal())?;
+            write_played(&mut out, script, stop.line)?;
+            writeln!(out, "{}", Refusal::from(stop.fault))?;
         }
     }
-    show_held(heap, &mut out, bench.look())?;
-    show_queues(heap, &mut out, bench.look(), records, true)?;
+    write_held(&mut out, bench.look(), records)?;
     Ok(out)
 }
 
@@ -62,27 +62,21 @@ fn play(heap: Global, machine: &str, system: &[u8], script: &[u8]) -> anyhow::Re
     let system = match System::read(heap, system) {
         Ok(system) => system,
         Err(SystemFault::Memory) => return Err(anyhow!("out of memory")),
-        Err(fault) => {
-            let mut out = String::new(heap);
-            show_refusal(heap, &mut out, fault.refusal())?;
-            return Ok(out);
-        }
+        Err(fault) => return Ok(format!(in heap; "{}\n", Refusal::from(fault))?),
     };
     let mut stores = [StoreMessage::of(true, 0, 0); 32];
     let mut loads = [LoadMessage::of(false, 0, 0); 32];
-    match machine {
-        "store" => Ok(play_on(heap, StoreBuffers, system, &mut stores, script)?),
-        "load" => Ok(play_on(heap, LoadBuffers, system, &mut loads, script)?),
-        "plain" => Ok(play_on(heap, Plain, system, &mut loads, script)?),
-        _ => Err(anyhow!("the machine is store, load or plain")),
-    }
+    let text = match machine.parse::<Machine>()? {
+        Machine::StoreBuffers => play_on(heap, StoreBuffers, system, &mut stores, script)?,
+        Machine::LoadBuffers => play_on(heap, LoadBuffers, system, &mut loads, script)?,
+        Machine::Plain => play_on(heap, Plain, system, &mut loads, script)?,
+    };
+    Ok(text)
 }
 
 fn run(rt: &HostRuntime) -> anyhow::Result<()> {
-    let mut args = env::args(rt)?;
-    let _program = args.next();
-    let Some(machine) = args.next() else {
-        return Err(anyhow!("the machine is store, load or plain"));
+    let Some(machine) = env::args(rt)?.nth(1) else {
+        return Err(UnknownMachine.into());
     };
     let folder = folder_named(rt, 2)?;
     let system = read(rt, folder.as_str(), "system.bin")?;

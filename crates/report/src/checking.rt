@@ -23,9 +23,7 @@ fn judge_list(system: System, memory: &mut [u8], list: &[u8]) -> Result<(usize, 
     let mut strip = [0; <LoadBuffers as OrderedRow>::WIDTH];
     let mut witness = [0; <LoadBuffers as OrderedRow>::WIDTH];
     let mut folder = Folder::open(LoadBuffers::new(system));
-    if let Err(fault) = folder.take_in(memory, list) {
-        return Err(fault.refusal());
-    }
+    folder.take_in(memory, list)?;
     let lines = folder.count();
     match folder.judge(memory, &mut strip, &mut witness) {
         Ok(verdict) => Ok((lines, verdict)),
@@ -40,7 +38,7 @@ pub fn check(heap: Global, system: &[u8], list: &[u8]) -> Result<Outcome, AllocE
     let system = match System::read(heap, system) {
         Ok(system) => system,
         Err(SystemFault::Memory) => return Err(AllocError),
-        Err(fault) => return Ok(Outcome::NoSystem(fault.refusal())),
+        Err(fault) => return Ok(Outcome::NoSystem(fault.into())),
     };
     let sizes = system.sizes();
     let mut memory = vec![in heap; 0; MOST_LINES * <LoadBuffers as OrderedRow>::WIDTH]?;
