@@ -1,4 +1,6 @@
 // The three machines, as they are named.
+ghost use Rattle.board.specs.Names.{Named};
+
 use std::error::Error;
 use std::fmt;
 use std::str::FromStr;
@@ -16,6 +18,8 @@ pub struct UnknownMachine;
 
 impl FromStr for Machine {
     type Err = UnknownMachine;
+
+    ghost from_str_gives = { Named };
 
     fn from_str(word: &str) -> Result<Machine, UnknownMachine> {
         match word {

@@ -1,5 +1,7 @@
 // The words of a line.
-ghost use Rattle.std.specs.Prelude.{◌≡◌, ◌⊎◌, [], ◌∷◌, ◌++◌};
+ghost use Rattle.std.specs.Prelude.{◌≡◌};
+ghost use Rattle.std.specs.Str.Parse.{ParsesUnsigned};
+ghost use Rattle.console.specs.Words.{first_word, other_words};
 
 #[derive(Clone, Copy)]
 pub struct Words<'a> {
@@ -10,7 +12,8 @@ pub struct Words<'a> {
 impl<'a> Words<'a> {
     // The word up to the next blank, which goes with it; the empty one past the last.
     pub fn word(&mut self) -> &'a str
-        ensures { (self.old.rest.now ≡ result.now ++ (32 ∷ self.new.rest.now)) ⊎ ((self.old.rest.now ≡ result.now) × (self.new.rest.now ≡ [])) }
+        ensures word { result.now ≡ first_word self.old.rest.now }
+        ensures rest { self.new.rest.now ≡ other_words self.old.rest.now }
     {
         match self.rest.split_once(' ') {
             Some((word, rest)) => {
@@ -25,8 +28,11 @@ impl<'a> Words<'a> {
         }
     }
 
-    // The next word as a number.
-    pub fn number(&mut self) -> anyhow::Result<usize> {
+    // The next word as a number, in decimal digits.
+    pub fn number(&mut self) -> anyhow::Result<usize>
+        ensures number { ParsesUnsigned 64 10 (first_word self.old.rest.now) result }
+        ensures rest { self.new.rest.now ≡ other_words self.old.rest.now }
+    {
         Ok(self.word().parse::<usize>()?)
     }
 }
