@@ -10,5 +10,6 @@ pub mod Refusal
 pub mod Sections
 pub mod Sizes
 pub mod SystemFault
+pub mod Told
 pub mod Transition
 pub mod Writer

@@ -1,4 +1,4 @@
--- The numbers of a refusal that has no place inside its place.
+-- A refusal that has no place inside its place.
 use Rattle.std.specs.Prelude.{ℕ}
 use Rattle.files.specs.declared.refusal.Refusal.{Refusal}
 

@@ -1,6 +1,7 @@
 // The four numbers by which a refusal is told.
-ghost use Rattle.std.specs.Prelude.{◌≡◌};
+ghost use Rattle.std.specs.Prelude.{◌≡◌, Some};
 ghost use Rattle.files.specs.Refusal.{refused};
+ghost use Rattle.files.specs.Told.{refusal_text};
 
 use std::fmt;
 
@@ -32,6 +33,8 @@ impl Refusal {
 }
 
 impl fmt::Display for Refusal {
+    ghost output = { λ r. Some (refusal_text r) };
+
     fn fmt<W: fmt::Write>(&self, f: &mut fmt::Formatter<W>) -> fmt::Result {
         let (number, part, place, inner) = (self.number, self.part, self.place, self.inner);
         write!(f, "refused {number} {part} {place} {inner}")

@@ -1,2 +1,3 @@
 pub mod Leaks
+pub mod Told
 pub mod Verdicts

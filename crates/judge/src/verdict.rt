@@ -1,4 +1,7 @@
 // What the judge answers.
+ghost use Rattle.std.specs.Prelude.{Some};
+ghost use Rattle.judge.specs.Told.{verdict_text};
+
 use std::fmt;
 
 #[derive(Clone, Copy, PartialEq, Eq, Debug)]
@@ -14,6 +17,8 @@ pub enum Verdict {
 }
 
 impl fmt::Display for Verdict {
+    ghost output = { λ v. Some (verdict_text v) };
+
     fn fmt<W: fmt::Write>(&self, f: &mut fmt::Formatter<W>) -> fmt::Result {
         match *self {
             Verdict::Safe => write!(f, "verdict safe"),

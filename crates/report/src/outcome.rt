@@ -1,4 +1,7 @@
 // How far a check came, and how it is told.
+ghost use Rattle.std.specs.Prelude.{Some};
+ghost use Rattle.report.specs.Told.{outcome_text};
+
 use files::refusal::Refusal;
 use files::sizes::Sizes;
 use judge::Verdict;
@@ -14,30 +17,16 @@ pub enum Outcome {
     Judged(Sizes, usize, Verdict),
 }
 
-fn write_sizes<W: fmt::Write>(f: &mut fmt::Formatter<W>, sizes: Sizes) -> fmt::Result {
-    let (p, x, v, t, b) = (
-        sizes.processes,
-        sizes.variables,
-        sizes.values,
-        sizes.transitions,
-        sizes.patterns,
-    );
-    writeln!(f, "system {p} {x} {v} {t} {b}")
-}
-
 // A line a stage, and a refusal in place of the line at which the check stops.
 impl fmt::Display for Outcome {
+    ghost output = { λ o. Some (outcome_text o) };
+
     fn fmt<W: fmt::Write>(&self, f: &mut fmt::Formatter<W>) -> fmt::Result {
         match *self {
             Outcome::NoSystem(refusal) => write!(f, "{refusal}"),
-            Outcome::NoList(sizes, refusal) => {
-                write_sizes(f, sizes)?;
-                write!(f, "{refusal}")
-            }
+            Outcome::NoList(sizes, refusal) => write!(f, "{sizes}\n{refusal}"),
             Outcome::Judged(sizes, lines, verdict) => {
-                write_sizes(f, sizes)?;
-                writeln!(f, "lines {lines}")?;
-                write!(f, "{verdict}")
+                write!(f, "{sizes}\nlines {lines}\n{verdict}")
             }
         }
     }
