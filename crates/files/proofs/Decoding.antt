@@ -1,59 +1,44 @@
--- The steps of a loop over the pieces of a section.
-use Rattle.std.proofs.Common.{◌≡◌, ℕ, zero, suc, ◌+◌, ◌-◌, ◌*◌, ◌/◌, ◌<◌, ◌≤◌, true, false, cond, List, [], ◌∷◌, ◌++◌, length, is_some, Some, None, Option, sym, refl, ap, ◌∙◌, mul-le-mul_left, mul-add, add-one, arith}
-use native.Mathlib.Nat.{mul-div-le}
-use Rattle.std.proofs.lemmas.List.{append-nil}
-use Rattle.std.proofs.lemmas.Bool.Decides.{nat_tests}
-use Rattle.std.specs.Option.{option_or}
-use Rattle.files.specs.Pieces.{decoded, first_wrong, listed, piece, piece_count, section_fault, wrong_from}
+-- The pieces of a section, as `chunks_exact` gives them.
+use Rattle.std.proofs.Common.{◌≡◌, ℕ, zero, suc, ◌+◌, ◌*◌, ◌/◌, ◌<◌, ◌≤◌, List, [], ◌∷◌, ◌++◌, length, take, drop, Some, Option, refl, sym, ap, ◌∙◌, arith, add-one}
+use Rattle.std.proofs.Math.Nat.{add-div_left, div-eq_of_lt}
+use Rattle.std.proofs.lemmas.List.{length-append, take_at, drop_at}
+use Rattle.std.proofs.lemmas.Iterator.{YieldsList}
+use Rattle.std.proofs.lemmas.Iterator.Splits.{YieldsList-from_shown_while}
+use Rattle.std.specs.Iterator.{Yields}
+use Rattle.std.specs.Slice.Iter.{chunks_exact_rest, chunks_exact_size, chunks_exact_steps}
+use denote.Ref.{Bor}
+use Rattle.files.specs.Pieces.{pieces}
 
--- a piece lies within the section
-pub piece_within : (width i n : ℕ) → i < n / width → width * i + width ≤ n
-piece_within width i n h =
-    let le : i + 1 ≤ n / width = omega arith in
-    omega (arith, mul-le-mul_left width le, mul-div-le n width, mul-add width i 1)
+pub length_pieces : (width n : ℕ) (bs : List ℕ) → length (pieces width n bs) ≡ n
+length_pieces width zero bs = refl
+length_pieces width (suc n) bs = ap suc (length_pieces width n (drop width bs))
 
-pub counted_within : (width most n i : ℕ) (bs : List ℕ) → Some n ≡ piece_count width most bs → i < n → width * i + width ≤ length bs
-counted_within width most n i bs e l =
-    let count : n ≡ length bs / width = grind (arith, nat_tests) in piece_within width i (length bs) (omega arith)
+abbrev pub pieces_of : ℕ → List ℕ → List (List ℕ)
+pieces_of width bs = pieces width (length bs / width) bs
 
-decoded_more : {X : Type 0} (decode : List ℕ → Option X) (width i : ℕ) (bs ps : List ℕ) (o : Option X) → ps ≡ piece width i bs → o ≡ decode ps → decoded decode width (i + 1) bs ≡ decoded decode width i bs ++ listed o
-decoded_more decode width i bs ps o p e =
-    ap (λ n. decoded decode width n bs) (add-one i) ∙ ap (λ q. decoded decode width i bs ++ listed q) (sym (e ∙ ap decode p))
+pieces_none : (width : ℕ) (bs : List ℕ) → length bs < width → length (pieces_of width bs) ≡ 0
+pieces_none width bs h = length_pieces width (length bs / width) bs ∙ div-eq_of_lt h
 
--- a right piece is pushed
-pub decoded_push : {X : Type 0} (decode : List ℕ → Option X) (width i : ℕ) (bs ps : List ℕ) (x : X) (xs : List X) → ps ≡ piece width i bs → Some x ≡ decode ps → xs ≡ decoded decode width i bs ++ (x ∷ []) → xs ≡ decoded decode width (i + 1) bs
-decoded_push decode width i bs ps x xs p e h = h ∙ sym (decoded_more decode width i bs ps (Some x) p e)
+pieces_more : (width : ℕ) (bs x rest : List ℕ) → 0 < width → bs ≡ x ++ rest → length x ≡ width → pieces_of width bs ≡ x ∷ pieces_of width rest
+pieces_more width bs x rest h e l =
+    let n : length bs ≡ width + length rest = ap length e ∙ length-append x rest ∙ ap (λ k. k + length rest) l in
+    let more : length bs / width ≡ suc (length rest / width) = ap (λ k. k / width) n ∙ add-div_left (length rest) h ∙ add-one (length rest / width) in
+    let front : take width bs ≡ x = ap (take width) e ∙ take_at x rest width l in
+    let back : drop width bs ≡ rest = ap (drop width) e ∙ drop_at x rest width l in
+    ap (λ k. pieces width k bs) more ∙ ap (λ y. y ∷ pieces width (length rest / width) (drop width bs)) front ∙ ap (λ y. x ∷ pieces width (length rest / width) y) back
 
--- a wrong piece is left out
-pub decoded_skip : {X : Type 0} (decode : List ℕ → Option X) (width i : ℕ) (bs ps : List ℕ) (xs : List X) → ps ≡ piece width i bs → None ≡ decode ps → xs ≡ decoded decode width i bs → xs ≡ decoded decode width (i + 1) bs
-decoded_skip decode width i bs ps xs p e h =
-    h ∙ sym (append-nil (decoded decode width i bs)) ∙ sym (decoded_more decode width i bs ps None p e)
+pub YieldsList-from_chunks : {s : _} (width : ℕ) (bs : List ℕ) → 0 < width → chunks_exact_size s ≡ width → chunks_exact_rest s ≡ bs → YieldsList chunks_exact_steps (λ x. x.now) s (pieces_of width bs)
+YieldsList-from_chunks {s} width bs h size rest =
+    rw (sym size, sym rest)
+    (YieldsList-from_shown_while chunks_exact_steps (λ x. x.now) (λ t. pieces_of (chunks_exact_size t) (chunks_exact_rest t)) (λ t. 0 < chunks_exact_size t)
+    (λ t u w k. pieces_none (chunks_exact_size t) (chunks_exact_rest t) k.1.0)
+    (λ t x u w k. (
+      omega arith,
+      pieces_more (chunks_exact_size t) (chunks_exact_rest t) x.now (chunks_exact_rest u) w k.1.0 k.1.1 ∙ ap (λ n. x.now ∷ pieces_of n (chunks_exact_rest u)) (sym k.0),
+    ))
+    s (omega arith))
 
--- one more piece that is right or not
-first_more : {X : Type 0} (decode : List ℕ → Option X) (width i base : ℕ) (bs ps : List ℕ) (o : Option X) → first_wrong decode width i base bs ≡ None → ps ≡ piece width i bs → o ≡ decode ps → first_wrong decode width (suc i) base bs ≡ cond (is_some o) None (Some (base + width * i))
-first_more decode width i base bs ps o h p e =
-    ap (λ f. option_or f (cond (is_some (decode (piece width i bs))) None (Some (base + width * i)))) h
-    ∙ ap (λ q. cond (is_some q) None (Some (base + width * i))) (sym (e ∙ ap decode p))
-
--- a right piece after right ones
-pub first_right : {X : Type 0} (decode : List ℕ → Option X) (width i base : ℕ) (bs ps : List ℕ) (o : Option X) → first_wrong decode width i base bs ≡ None → ps ≡ piece width i bs → o ≡ decode ps → is_some o ≡ true → first_wrong decode width (i + 1) base bs ≡ None
-first_right decode width i base bs ps o h p e s =
-    ap (λ n. first_wrong decode width n base bs) (add-one i)
-    ∙ first_more decode width i base bs ps o h p e
-    ∙ ap (λ b. cond b None (Some (base + width * i))) s
-
--- what is found first stays the first
-first_stays : {X : Type 0} (decode : List ℕ → Option X) (width i base : ℕ) (bs : List ℕ) (place k n : ℕ) → k + i ≡ n → first_wrong decode width i base bs ≡ Some place → first_wrong decode width n base bs ≡ Some place
-first_stays decode width i base bs place zero n e h =
-    let same : n ≡ i = omega arith in ap (λ m. first_wrong decode width m base bs) same ∙ h
-first_stays decode width i base bs place (suc k) n e h =
-    let same : n ≡ suc (k + i) = omega arith in
-    ap (λ m. first_wrong decode width m base bs) same
-    ∙ ap (λ f. option_or f (cond (is_some (decode (piece width (k + i) bs))) None (Some (base + width * (k + i))))) (first_stays decode width i base bs place k (k + i) refl h)
-
--- the first wrong piece is the section's fault
-pub first_wrong_lem : {X : Type 0} (decode : List ℕ → Option X) (width i base : ℕ) (bs ps : List ℕ) (o : Option X) (most n : ℕ) → first_wrong decode width i base bs ≡ None → ps ≡ piece width i bs → o ≡ decode ps → is_some o ≡ false → i < n → Some n ≡ piece_count width most bs → Some (base + width * i) ≡ section_fault decode width most base bs
-first_wrong_lem decode width i base bs ps o most n h p e s l m =
-    let here = first_more decode width i base bs ps o h p e ∙ ap (λ b. cond b None (Some (base + width * i))) s in
-    sym (first_stays decode width (suc i) base bs (base + width * i) (n - suc i) n (omega arith) here)
-    ∙ ap (λ q. wrong_from q decode width base bs) m
+-- each chunk has the width
+pub chunks_wide : (s t : _) (xs : List (Bor (List ℕ))) → Yields chunks_exact_steps s xs t → chunks_exact_size t ≡ chunks_exact_size s
+chunks_wide s t [] y = ap chunks_exact_size (sym y)
+chunks_wide s t (x ∷ xs) (j, step, y) = chunks_wide j t xs y ∙ step.0

@@ -5,7 +5,9 @@ use Rattle.std.proofs.lemmas.Bool.{and_from, and_parts}
 use Rattle.std.proofs.lemmas.Bool.Decides.{nat_tests}
 use Rattle.std.specs.Option.{option_map, option_or}
 use Rattle.files.specs.Bytes.{two}
-use Rattle.files.specs.Pieces.{checked, decoded, every, listed, piece, section_fault}
+use Rattle.std.specs.List.{cons_option, filter_map}
+use Rattle.files.specs.Pieces.{checked, decoded, every, pieces, section_fault}
+use Rattle.files.proofs.Decoding.{length_pieces}
 use Rattle.files.specs.ReadSystem.{patterns_fault, system_fault, transitions_fault}
 use Rattle.files.specs.Sections.{pairs_fault, section}
 use Rattle.files.specs.Sizes.{counts_fault, right_sizes, sizes_fault}
@@ -34,42 +36,36 @@ sizes_right one h =
     let n = length-drop 3 one in
     grind (arith, nat_tests)
 
-listed_few : {X : Type 0} (o : Option X) → length (listed o) ≤ 1
-listed_few None = omega arith
-listed_few (Some x) = omega arith
+kept_few : {X : Type 0} (o : Option X) (xs : List X) → length (cons_option o xs) ≤ suc (length xs)
+kept_few None xs = omega arith
+kept_few (Some x) xs = omega arith
 
-decoded_few : {X : Type 0} (decode : List ℕ → Option X) (width n : ℕ) (bs : List ℕ) → length (decoded decode width n bs) ≤ n
-decoded_few decode width zero bs = omega arith
-decoded_few decode width (suc n) bs =
-    omega (arith, length-append (decoded decode width n bs) (listed (decode (piece width n bs))), decoded_few decode width n bs, listed_few (decode (piece width n bs)))
+decoded_few : {X : Type 0} (decode : List ℕ → Option X) (ps : List (List ℕ)) → length (filter_map decode ps) ≤ length ps
+decoded_few decode [] = omega arith
+decoded_few decode (p ∷ ps) = omega (arith, kept_few (decode p) (filter_map decode ps), decoded_few decode ps)
 
 -- a right section says not too much, whichever decoder reads it
 pub built_few : {X : Type 0} (decode decode' : List ℕ → Option X) (width width' most base : ℕ) (bs bs' : List ℕ) (xs : List X) → section_fault decode width most base bs ≡ None → width' ≡ width → bs' ≡ bs → xs ≡ decoded decode' width' (length bs' / width') bs' → length xs ≤ most
 built_few decode decode' width width' most base bs bs' xs h p q e =
     let few : length bs / width ≤ most = grind (arith, nat_tests) in
     let same : length bs' / width' ≡ length bs / width = cc in
-    omega (arith, ap length e, decoded_few decode' width' (length bs' / width') bs')
+    let ps = pieces width' (length bs' / width') bs' in
+    omega (arith, ap length e, decoded_few decode' ps, length_pieces width' (length bs' / width') bs')
 
-every_append : {X : Type 0} (test : X → Bool) (xs ys : List X) → every test xs ≡ true → every test ys ≡ true → every test (xs ++ ys) ≡ true
-every_append test [] ys h k = k
-every_append test (x ∷ xs) ys h k =
-    let p = and_parts (test x) (every test xs) h in and_from (test x) (every test (xs ++ ys)) p.0 (every_append test xs ys p.1 k)
+every_kept : {X : Type 0} (test : X → Bool) (x : X) (b : Bool) (xs : List X) → test x ≡ b → every test xs ≡ true → every test (cons_option (cond b (Some x) None) xs) ≡ true
+every_kept test x true xs e h = and_from (test x) (every test xs) e h
+every_kept test x false xs e h = h
 
-every_kept : {X : Type 0} (test : X → Bool) (x : X) (b : Bool) → test x ≡ b → every test (listed (cond b (Some x) None)) ≡ true
-every_kept test x true e = and_from (test x) true e refl
-every_kept test x false e = refl
-
-every_listed : {X : Type 0} (test : X → Bool) (o : Option X) → every test (listed (checked test o)) ≡ true
-every_listed test None = refl
-every_listed test (Some x) = every_kept test x (test x) refl
+every_checked : {X : Type 0} (test : X → Bool) (o : Option X) (xs : List X) → every test xs ≡ true → every test (cons_option (checked test o) xs) ≡ true
+every_checked test None xs h = h
+every_checked test (Some x) xs h = every_kept test x (test x) xs refl h
 
 -- what is decoded passes the test by which the decoder takes it
-decoded_pass : {X : Type 0} (test : X → Bool) (raw : List ℕ → Option X) (width n : ℕ) (bs : List ℕ) → every test (decoded (λ ps. checked test (raw ps)) width n bs) ≡ true
-decoded_pass test raw width zero bs = refl
-decoded_pass test raw width (suc n) bs =
-    every_append test (decoded (λ ps. checked test (raw ps)) width n bs) (listed (checked test (raw (piece width n bs)))) (decoded_pass test raw width n bs) (every_listed test (raw (piece width n bs)))
+decoded_pass : {X : Type 0} (test : X → Bool) (raw : List ℕ → Option X) (ps : List (List ℕ)) → every test (filter_map (λ p. checked test (raw p)) ps) ≡ true
+decoded_pass test raw [] = refl
+decoded_pass test raw (p ∷ ps) = every_checked test (raw p) (filter_map (λ q. checked test (raw q)) ps) (decoded_pass test raw ps)
 
 -- the same of the list that was built, where the test goes by state counts
 pub built_pass : {X : Type 0} (test : List ℕ → X → Bool) (raw : List ℕ → Option X) (width n : ℕ) (bs states states' : List ℕ) (xs : List X) → states' ≡ states → xs ≡ decoded (λ ps. checked (test states) (raw ps)) width n bs → every (test states') xs ≡ true
 built_pass test raw width n bs states states' xs p e =
-    ap (λ ss. every (test ss) xs) p ∙ ap (every (test states)) e ∙ decoded_pass (test states) raw width n bs
+    ap (λ ss. every (test ss) xs) p ∙ ap (every (test states)) e ∙ decoded_pass (test states) raw (pieces width n bs)

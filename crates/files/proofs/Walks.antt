@@ -1,11 +1,32 @@
 -- One step of the walk through a directory.
-use Rattle.std.proofs.Common.{◌≡◌, ℕ, zero, suc, ◌+◌, ◌*◌, ◌<◌, ◌≤◌, ltb, List, length, Some, None, Option, sym, ap, ◌∙◌, inl, inr, arith, ltb-false}
+use Rattle.std.proofs.Common.{◌≡◌, ℕ, zero, suc, ◌+◌, ◌*◌, ◌<◌, ◌≤◌, Bool, true, false, eqb, ltb, List, length, Ok, Err, is_ok, Result, Some, None, Option, refl, sym, ap, ◌∙◌, inl, inr, arith, ltb-false}
 use Rattle.std.proofs.lemmas.Bool.{cases_eq, cases_Bool, eq-eqb, ne_eqb, cond-true, cond-false}
+use Rattle.std.specs.Result.{result_err}
 use Rattle.files.specs.Bytes.{two}
 use Rattle.files.specs.Directory.{walk, dir_fault}
+use Rattle.files.specs.Sections.{must}
 
 some_none : {n : ℕ} → ◌≡◌ {A = Option ℕ} (Some n) None → ⊥
 some_none e = let z : ◌≡◌ {A = ℕ} 0 1 = cc in omega arith
+
+-- what a test gives where it fails, and where it passes
+pub must_fails : (test : Bool) (place at : ℕ) (after : Option ℕ) → Some at ≡ must test place None → Some at ≡ must test place after
+must_fails true place at after h = absurd (some_none h)
+must_fails false place at after h = h
+
+pub must_passes : (test : Bool) (place : ℕ) (after : Option ℕ) → None ≡ must test place None → must test place after ≡ after
+must_passes true place after h = refl
+must_passes false place after h = absurd (some_none (sym h))
+
+-- where there is no fault, there is a value
+pub ok_from_none : {X : Type 0} (r : Result X ℕ) → result_err r ≡ None → is_ok r ≡ true
+ok_from_none (Ok x) h = refl
+ok_from_none (Err e) h = absurd (some_none h)
+
+-- a pair, and what comes after it
+pub walk_more : (k place due : ℕ) (bs : List ℕ) (test : Bool) → test ≡ eqb (two bs place) due → walk (suc k) place due bs ≡ must test place (walk k (place + 4) (due + two bs (place + 2)) bs)
+unfolding walk
+walk_more k place due bs test h = ap (λ b. must b place (walk k (place + 4) (due + two bs (place + 2)) bs)) (sym h)
 
 pub walk_bad : (k place due : ℕ) (bs : List ℕ) → (two bs place ≡ due → ⊥) → walk (suc k) place due bs ≡ Some place
 unfolding walk
@@ -14,6 +35,10 @@ walk_bad k place due bs h = cond-false _ _ _ (ne_eqb (two bs place) due h)
 pub walk_good : (k place due : ℕ) (bs : List ℕ) → two bs place ≡ due → walk (suc k) place due bs ≡ walk k (place + 4) (due + two bs (place + 2)) bs
 unfolding walk
 walk_good k place due bs h = cond-true _ _ _ (eq-eqb (two bs place) due h)
+
+pub walk_at_end : (place due : ℕ) (bs : List ℕ) → walk 0 place due bs ≡ must (eqb due (length bs)) (length bs) None
+unfolding walk
+walk_at_end place due bs = refl
 
 pub walk_end : (place due : ℕ) (bs : List ℕ) → due ≡ length bs → walk 0 place due bs ≡ None
 unfolding walk

@@ -1,7 +1,11 @@
 -- A section that is a row of pieces of equal width, each of which says one thing or is wrong.
-use Rattle.std.specs.Prelude.{◌≡◌, ℕ, zero, suc, ◌+◌, ◌*◌, ◌/◌, ◌%◌, Bool, true, cond, ◌&&◌, List, [], ◌∷◌, ◌++◌, length, take, drop, is_some, Some, None, Ok, Err, vec_items, Option, Result, Vec, ◌==◌, nat_le}
-use Rattle.std.specs.Option.{option_or}
+use Rattle.std.specs.Prelude.{◌≡◌, ℕ, zero, suc, ◌+◌, ◌*◌, ◌/◌, ◌%◌, Bool, true, not, cond, ◌&&◌, List, [], ◌∷◌, length, map, take, drop, is_some, Some, None, Ok, Err, vec_items, Option, Result, Vec, ◌==◌, nat_le, position}
+use Rattle.std.specs.Fn.{FnReturnsAt}
+use Rattle.std.specs.List.{filter_map}
+use Rattle.std.specs.Option.{option_map}
 use Rattle.std.specs.declared.alloc.Global.{Global}
+use denote.Param.Members.{Shared}
+use denote.Ref.{Bor}
 use Rattle.files.specs.declared.system_fault.SystemFault.{SystemFault}
 use Rattle.files.specs.declared.system_fault.SystemFault.TheVariants.{Memory}
 
@@ -19,23 +23,22 @@ every test (x ∷ xs) = test x && every test xs
 abbrev pub piece_count : ℕ → ℕ → List ℕ → Option ℕ
 piece_count width most bs = cond (length bs % width == 0 && nat_le (length bs / width) most) (Some (length bs / width)) None
 
-abbrev pub piece : ℕ → ℕ → List ℕ → List ℕ
-piece width i bs = take width (drop (width * i) bs)
+-- the first n pieces
+abbrev pub pieces : ℕ → ℕ → List ℕ → List (List ℕ)
+pieces width zero bs = []
+pieces width (suc n) bs = take width bs ∷ pieces width n (drop width bs)
 
--- one element, or none
-abbrev pub listed : {X : Type 0} → Option X → List X
-listed None = []
-listed (Some x) = x ∷ []
+-- each answer of a reader of pieces is what `decode` says of the piece
+abbrev pub Reads : {X F : Type 0} → Shared F (Bor (List ℕ) × Unit {0}) (Option X) → F → (List ℕ → Option X) → Type 0
+Reads {X} g read decode = (bs : List ℕ) (answer : Option X) → FnReturnsAt g read bs answer → answer ≡ decode bs
 
 -- what the first n pieces say, the wrong ones left out
 abbrev pub decoded : {X : Type 0} → (List ℕ → Option X) → ℕ → ℕ → List ℕ → List X
-decoded decode width zero bs = []
-decoded decode width (suc n) bs = decoded decode width n bs ++ listed (decode (piece width n bs))
+decoded decode width n bs = filter_map decode (pieces width n bs)
 
 -- the place of the first wrong piece among the first n, in a section at `base`
 abbrev pub first_wrong : {X : Type 0} → (List ℕ → Option X) → ℕ → ℕ → ℕ → List ℕ → Option ℕ
-first_wrong decode width zero base bs = None
-first_wrong decode width (suc n) base bs = option_or (first_wrong decode width n base bs) (cond (is_some (decode (piece width n bs))) None (Some (base + width * n)))
+first_wrong decode width n base bs = option_map (λ i. base + width * i) (position (λ answer. not (is_some answer)) (map decode (pieces width n bs)))
 
 abbrev pub wrong_from : {X : Type 0} → Option ℕ → (List ℕ → Option X) → ℕ → ℕ → List ℕ → Option ℕ
 wrong_from None decode width base bs = Some base

@@ -1,15 +1,15 @@
 -- Section one of a system file: process count, variable count, V, then each process's state count.
-use Rattle.std.specs.Prelude.{ℕ, ◌+◌, Bool, ◌&&◌, List, [], ◌∷◌, length, drop, None, Option, ◌==◌, nat_le, slice_index}
+use Rattle.std.specs.Prelude.{ℕ, ◌+◌, Bool, not, ◌&&◌, List, length, drop, Option, ◌==◌, nat_le, position, slice_index}
+use Rattle.std.specs.Option.{option_map}
 use Rattle.files.specs.Pieces.{every}
 use Rattle.files.specs.Sections.{must}
 
 abbrev pub one_to : ℕ → ℕ → Bool
 one_to most n = nat_le 1 n && nat_le n most
 
--- the place of the first state count that is not 1 to 16
+-- the place of the first state count that is not 1 to 16, where the first one stands at `place`
 abbrev pub counts_fault : ℕ → List ℕ → Option ℕ
-counts_fault place [] = None
-counts_fault place (n ∷ ns) = must (one_to 16 n) place (counts_fault (place + 1) ns)
+counts_fault place states = option_map (λ i. place + i) (position (λ n. not (one_to 16 n)) states)
 
 -- the place of the first fault of section one, which stands at 12
 abbrev pub sizes_fault : List ℕ → Option ℕ

@@ -6,6 +6,7 @@ mod directory;
 pub mod list;
 pub mod list_fault;
 mod look;
+mod must;
 pub mod pattern;
 mod pieces;
 mod read_system;

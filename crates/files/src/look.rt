@@ -27,10 +27,7 @@ impl System {
         ensures value { result ≡ slice_get (program self.now).states process }
         ensures range { IfSome result (Between 1 16) }
     {
-        if process >= self.states.len() {
-            return None;
-        }
-        Some(self.states[process])
+        self.states.get(process).copied()
     }
 
     // None exactly when there is no such transition.
@@ -38,10 +35,7 @@ impl System {
         ensures value { result ≡ slice_get (program self.now).transitions number }
         ensures drawn { IfSome result (Drawn (program self.now)) }
     {
-        if number >= self.transitions.len() {
-            return None;
-        }
-        Some(self.transitions[number])
+        self.transitions.get(number).copied()
     }
 
     // None exactly when there is no such pattern.
@@ -49,9 +43,6 @@ impl System {
         ensures value { result ≡ slice_get (program self.now).patterns number }
         ensures fitting { IfSome result (Fitting (program self.now)) }
     {
-        if number >= self.patterns.len() {
-            return None;
-        }
-        Some(self.patterns[number])
+        self.patterns.get(number).copied()
     }
 }

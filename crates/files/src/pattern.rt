@@ -1,11 +1,14 @@
 // Section three of a system file: the bad patterns.
 ghost use Rattle.std.specs.Prelude.{◌≡◌, ◌+◌, ◌/◌, ◌^◌, ◌<◌, length};
-ghost use Rattle.files.specs.Pattern.{state_named, fits_at, fits as fits_of, pattern_of};
+ghost use Rattle.std.specs.Result.{result_err};
+ghost use Rattle.files.specs.Pattern.{state_named, fits, pattern_of};
 ghost use Rattle.files.specs.Pieces.{Built, decoded, section_fault};
 
-use crate::pieces::{piece, piece_count};
+use crate::pieces::{check_pieces, read_pieces};
+use crate::sizes::Counts;
 use crate::system_fault::SystemFault;
 use std::alloc::Global;
+use std::array;
 
 // A set of configurations: those whose processes are in the states that are named.
 #[derive(Clone, Copy, PartialEq, Eq, Debug)]
@@ -18,79 +21,59 @@ pub struct Pattern {
 fn state_named(bytes: &[u8], process: usize) -> Option<u8>
     ensures { result ≡ state_named bytes.now process }
 {
-    if process >= bytes.len() || bytes[process] == 255 {
-        return None;
+    bytes.get(process).copied().filter(|state| *state != 255)
+}
+
+impl Counts<'_> {
+    // Whether each process has the state that the pattern names for it.
+    fn has_states(&self, pattern: Pattern) -> bool
+        ensures { result ≡ fits self.now.states.now pattern }
+    {
+        pattern
+            .states
+            .iter()
+            .enumerate()
+            .all(|(process, state)| self.has_state(process, *state))
     }
-    Some(bytes[process])
-}
 
-// Whether the process has the state, if one is named.
-fn fits_at(states: &[u8], process: usize, state: Option<u8>) -> bool
-    ensures { result ≡ fits_at states.now process state }
-{
-    match state {
-        None => true,
-        Some(s) => process < states.len() && s < states[process],
+    // The pattern of one byte a process, or None if it is wrong.
+    fn read_pattern(&self, bytes: &[u8]) -> Option<Pattern>
+        ensures { result ≡ pattern_of self.now.states.now bytes.now }
+    {
+        let pattern = Pattern {
+            states: array::from_fn(|process| state_named(bytes, process)),
+        };
+        self.has_states(pattern).then_some(pattern)
     }
-}
 
-// Whether each process has the state that the pattern names for it.
-fn fits(states: &[u8], pattern: Pattern) -> bool
-    ensures { result ≡ fits_of states.now pattern }
-{
-    fits_at(states, 0, pattern.states[0])
-        && fits_at(states, 1, pattern.states[1])
-        && fits_at(states, 2, pattern.states[2])
-        && fits_at(states, 3, pattern.states[3])
-}
-
-// The pattern of one byte a process, or None if it is wrong.
-fn read_pattern(states: &[u8], bytes: &[u8]) -> Option<Pattern>
-    ensures { result ≡ pattern_of states.now bytes.now }
-{
-    let p = Pattern {
-        states: [
-            state_named(bytes, 0),
-            state_named(bytes, 1),
-            state_named(bytes, 2),
-            state_named(bytes, 3),
-        ],
-    };
-    if fits(states, p) { Some(p) } else { None }
-}
-
-// The place of the first fault of section three, which stands at `base`.
-pub(crate) fn patterns_fault(states: &[u8], bytes: &[u8], base: usize) -> Option<usize>
-    requires { (0 < length states.now) × (base + length bytes.now < 2 ^ 32) }
-    ensures { result ≡ section_fault (pattern_of states.now) (length states.now) 16 base bytes.now }
-{
-    let width = states.len();
-    let Some(n) = piece_count(bytes, width, 16) else {
-        return Some(base);
-    };
-    for i in 0..n {
-        if read_pattern(states, piece(bytes, width, i)).is_none() {
-            return Some(base + width * i);
-        }
+    // Looks for the first fault of section three, which stands at `base`.
+    pub(crate) fn check_patterns(&self, bytes: &[u8], base: usize) -> Result<(), usize>
+        requires { (0 < length self.now.states.now) × (base + length bytes.now < 2 ^ 32) }
+        ensures { result_err result ≡ section_fault (pattern_of self.now.states.now) (length self.now.states.now) 16 base bytes.now }
+    {
+        check_pieces(
+            bytes,
+            base,
+            self.states.len(),
+            16,
+            |piece| self.read_pattern(piece),
+        )
     }
-    None
-}
 
-// The patterns of section three.
-pub(crate) fn read_patterns(
-    heap: Global,
-    states: &[u8],
-    bytes: &[u8],
-) -> Result<Vec<Pattern>, SystemFault>
-    requires { 0 < length states.now }
-    ensures { Built (decoded (pattern_of states.now) (length states.now) (length bytes.now / length states.now) bytes.now) result }
-{
-    let width = states.len();
-    let mut list = Vec::new(heap);
-    for i in 0..bytes.len() / width {
-        if let Some(p) = read_pattern(states, piece(bytes, width, i)) {
-            list.push(p)?;
-        }
+    // The patterns of section three.
+    pub(crate) fn read_patterns(
+        &self,
+        heap: Global,
+        bytes: &[u8],
+    ) -> Result<Vec<Pattern>, SystemFault>
+        requires { 0 < length self.now.states.now }
+        ensures { Built (decoded (pattern_of self.now.states.now) (length self.now.states.now) (length bytes.now / length self.now.states.now) bytes.now) result }
+    {
+        read_pieces(
+            heap,
+            bytes,
+            self.states.len(),
+            |piece| self.read_pattern(piece),
+        )
     }
-    Ok(list)
 }

@@ -1,25 +1,45 @@
 // A section that is a row of pieces of equal width.
-ghost use Rattle.std.specs.Prelude.{◌≡◌, ◌+◌, ◌*◌, ◌<◌, ◌≤◌, length};
-ghost use Rattle.files.specs.Pieces.{piece_count, piece as piece_of};
+ghost use Rattle.std.specs.Prelude.{◌≡◌, ℕ, ◌+◌, ◌/◌, ◌^◌, ◌<◌, List, Option, length};
+ghost use Rattle.std.specs.Result.{result_err};
+ghost use Rattle.files.specs.Pieces.{Built, Reads, decoded, section_fault};
 
-// The number of pieces, if the section has no bytes left over and not too many pieces.
-pub(crate) fn piece_count(bytes: &[u8], width: usize, most: usize) -> Option<usize>
-    requires { 0 < width }
-    ensures { result ≡ piece_count width most bytes.now }
+use crate::system_fault::SystemFault;
+use std::alloc::Global;
+
+// Looks for the first fault of a section at `base`, with the place as the error: bytes that are
+// left over, more pieces than `most`, or a piece that `read` finds wrong.
+pub(crate) fn check_pieces<T: Copy, F: Fn(&[u8]) -> Option<T>>(
+    bytes: &[u8],
+    base: usize,
+    width: usize,
+    most: usize,
+    read: F,
+) -> Result<(), usize>
+    requires wide { 0 < width }
+    requires fits { base + length bytes.now < 2 ^ 32 }
+    requires takes { (f : _) (piece : _) → length piece.now ≡ width → F.pre f piece }
+    ensures { (decode : List ℕ → Option T) → Reads F.Fn read decode → result_err result ≡ section_fault decode width most base bytes.now }
 {
-    let n = bytes.len() / width;
-    if bytes.len() % width != 0 || n > most {
-        return None;
+    if bytes.len() % width != 0 || bytes.len() / width > most {
+        return Err(base);
     }
-    Some(n)
+    bytes
+        .chunks_exact(width)
+        .map(&read)
+        .position(|answer| answer.is_none())
+        .map_or(Ok(()), |i| Err(base + width * i))
 }
 
-// The piece of a number.
-pub(crate) fn piece<'a>(bytes: &'a [u8], width: usize, number: usize) -> &'a [u8]
-    requires { width * number + width ≤ length bytes.now }
-    ensures bytes { result.now ≡ piece_of width number bytes.now }
-    ensures whole { length result.now ≡ width }
+// What the pieces say, the wrong ones left out.
+pub(crate) fn read_pieces<T: Copy, F: Fn(&[u8]) -> Option<T>>(
+    heap: Global,
+    bytes: &[u8],
+    width: usize,
+    read: F,
+) -> Result<Vec<T>, SystemFault>
+    requires wide { 0 < width }
+    requires takes { (f : _) (piece : _) → length piece.now ≡ width → F.pre f piece }
+    ensures { (decode : List ℕ → Option T) → Reads F.Fn read decode → Built (decoded decode width (length bytes.now / width) bytes.now) result }
 {
-    let at = width * number;
-    &bytes[at..at + width]
+    Ok(bytes.chunks_exact(width).filter_map(&read).collect(heap)?)
 }

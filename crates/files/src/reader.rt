@@ -3,7 +3,7 @@ ghost use Rattle.std.specs.Prelude.{◌≡◌};
 ghost use Rattle.files.specs.Reader.{Opened, Written, OpensEvery, Handed, HandsEvery};
 
 use crate::bytes::two_at;
-use crate::directory::directory_fault;
+use crate::directory::line_count;
 use crate::list::{Line, ListReader};
 use crate::list_fault::ListFault;
 
@@ -15,13 +15,8 @@ impl<'a> ListReader<'a> {
         ensures written { Written bytes.now result }
         ensures every { OpensEvery bytes.now result }
     {
-        match directory_fault(bytes) {
-            Some(place) => Err(ListFault::Directory(place)),
-            None => {
-                let count = two_at(bytes, 0);
-                Ok(ListReader { bytes, count })
-            }
-        }
+        let count = line_count(bytes).map_err(ListFault::Directory)?;
+        Ok(ListReader { bytes, count })
     }
 
     pub fn count(&self) -> usize
@@ -42,11 +37,9 @@ impl<'a> ListReader<'a> {
         let pair = 2 + 4 * number;
         let place = two_at(self.bytes, pair);
         let length = two_at(self.bytes, pair + 2);
-        if place + length > self.bytes.len() {
-            return None;
-        }
+        let bytes = self.bytes.get(place..place + length)?;
         Some(Line {
-            bytes: &self.bytes[place..place + length],
+            bytes,
             number,
             place,
         })

@@ -1,35 +1,26 @@
 // The three sections of a system file, by the pairs of offset and length that open it.
 ghost use Rattle.std.specs.Prelude.{◌≡◌, ◌+◌, ◌*◌, ◌<◌, length, None};
+ghost use Rattle.std.specs.Result.{result_err};
 ghost use Rattle.files.specs.Bytes.{two};
 ghost use Rattle.files.specs.Sections.{pairs_fault, section as section_of};
 
 use crate::bytes::two_at;
+use crate::must::must;
 
-// The place of the first fault of the three pairs.
-pub(crate) fn pairs_fault(bytes: &[u8]) -> Option<usize>
-    ensures { result ≡ pairs_fault bytes.now }
+// Looks for the first fault of the three pairs, with its place as the error.
+pub(crate) fn check_pairs(bytes: &[u8]) -> Result<(), usize>
+    ensures { result_err result ≡ pairs_fault bytes.now }
 {
     let n = bytes.len();
-    if n < 12 {
-        return Some(n);
-    }
+    must(n >= 12, n)?;
     let first = two_at(bytes, 0);
     let size = two_at(bytes, 2);
-    if first != 12 || size < 4 {
-        return Some(0);
-    }
+    must(first == 12 && size >= 4, 0)?;
     let second = two_at(bytes, 4);
-    if second != first + size {
-        return Some(4);
-    }
+    must(second == first + size, 4)?;
     let third = two_at(bytes, 8);
-    if third != second + two_at(bytes, 6) {
-        return Some(8);
-    }
-    if third + two_at(bytes, 10) != n {
-        return Some(n);
-    }
-    None
+    must(third == second + two_at(bytes, 6), 8)?;
+    must(third + two_at(bytes, 10) == n, n)
 }
 
 // The section of a number, in a file whose pairs are right.

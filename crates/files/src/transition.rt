@@ -1,9 +1,11 @@
 // Section two of a system file: the transitions.
 ghost use Rattle.std.specs.Prelude.{◌≡◌, ◌+◌, ◌/◌, ◌^◌, ◌<◌, length};
+ghost use Rattle.std.specs.Result.{result_err};
 ghost use Rattle.files.specs.Pieces.{Built, decoded, section_fault};
 ghost use Rattle.files.specs.Transition.{operation_fits, operation_of, is_drawn, transition_of};
 
-use crate::pieces::{piece, piece_count};
+use crate::pieces::{check_pieces, read_pieces};
+use crate::sizes::Counts;
 use crate::system_fault::SystemFault;
 use std::alloc::Global;
 
@@ -49,89 +51,63 @@ fn operation_of(code: u8, variable: u8, first: u8, second: u8) -> Option<Operati
     }
 }
 
-// Whether the variable and the values of an operation are the system's.
-fn operation_fits(variables: u8, values: u8, operation: Operation) -> bool
-    ensures { result ≡ operation_fits variables values operation }
-{
-    match operation {
-        Operation::Nop | Operation::Fence => true,
-        Operation::Read { variable, value } | Operation::Write { variable, value } => {
-            variable < variables && value < values
-        }
-        Operation::Exchange { variable, old, new } => variable < variables
-            && old < values
-            && new < values,
-    }
-}
-
-// Whether the numbers of a transition are the system's.
-fn is_drawn(states: &[u8], variables: u8, values: u8, t: Transition) -> bool
-    ensures { result ≡ is_drawn states.now variables values t }
-{
-    let process = usize::from(t.process);
-    if process >= states.len() {
-        return false;
-    }
-    let count = states[process];
-    t.before < count && t.after < count && operation_fits(variables, values, t.operation)
-}
-
-// The transition of seven bytes, or None if they are wrong.
-fn read_transition(states: &[u8], variables: u8, values: u8, seven: &[u8]) -> Option<Transition>
-    requires { length seven.now ≡ 7 }
-    ensures { result ≡ transition_of states.now variables values seven.now }
-{
-    let operation = operation_of(seven[2], seven[3], seven[4], seven[5])?;
-    let t = Transition {
-        process: seven[0],
-        before: seven[1],
-        operation,
-        after: seven[6],
-    };
-    if is_drawn(states, variables, values, t) {
-        Some(t)
-    } else {
-        None
-    }
-}
-
-// The place of the first fault of section two, which stands at `base`.
-pub(crate) fn transitions_fault(
-    states: &[u8],
-    variables: u8,
-    values: u8,
-    bytes: &[u8],
-    base: usize,
-) -> Option<usize>
-    requires { base + length bytes.now < 2 ^ 32 }
-    ensures { result ≡ section_fault (transition_of states.now variables values) 7 64 base bytes.now }
-{
-    let Some(n) = piece_count(bytes, 7, 64) else {
-        return Some(base);
-    };
-    for i in 0..n {
-        if read_transition(states, variables, values, piece(bytes, 7, i)).is_none() {
-            return Some(base + 7 * i);
+impl Counts<'_> {
+    // Whether the variable and the values of an operation are the system's.
+    fn has_operation(&self, operation: Operation) -> bool
+        ensures { result ≡ operation_fits self.now.variables self.now.values operation }
+    {
+        match operation {
+            Operation::Nop | Operation::Fence => true,
+            Operation::Read { variable, value } | Operation::Write { variable, value } => {
+                variable < self.variables && value < self.values
+            }
+            Operation::Exchange { variable, old, new } => variable < self.variables
+                && old < self.values
+                && new < self.values,
         }
     }
-    None
-}
 
-// The transitions of section two.
-pub(crate) fn read_transitions(
-    heap: Global,
-    states: &[u8],
-    variables: u8,
-    values: u8,
-    bytes: &[u8],
-) -> Result<Vec<Transition>, SystemFault>
-    ensures { Built (decoded (transition_of states.now variables values) 7 (length bytes.now / 7) bytes.now) result }
-{
-    let mut list = Vec::new(heap);
-    for i in 0..bytes.len() / 7 {
-        if let Some(t) = read_transition(states, variables, values, piece(bytes, 7, i)) {
-            list.push(t)?;
-        }
+    // Whether the numbers of a transition are the system's.
+    fn has_transition(&self, t: Transition) -> bool
+        ensures { result ≡ is_drawn self.now.states.now self.now.variables self.now.values t }
+    {
+        let process = usize::from(t.process);
+        self.has_state(process, Some(t.before))
+            && self.has_state(process, Some(t.after))
+            && self.has_operation(t.operation)
     }
-    Ok(list)
+
+    // The transition of seven bytes, or None if they are wrong.
+    fn read_transition(&self, seven: &[u8]) -> Option<Transition>
+        requires { length seven.now ≡ 7 }
+        ensures { result ≡ transition_of self.now.states.now self.now.variables self.now.values seven.now }
+    {
+        let operation = operation_of(seven[2], seven[3], seven[4], seven[5])?;
+        let t = Transition {
+            process: seven[0],
+            before: seven[1],
+            operation,
+            after: seven[6],
+        };
+        self.has_transition(t).then_some(t)
+    }
+
+    // Looks for the first fault of section two, which stands at `base`.
+    pub(crate) fn check_transitions(&self, bytes: &[u8], base: usize) -> Result<(), usize>
+        requires { base + length bytes.now < 2 ^ 32 }
+        ensures { result_err result ≡ section_fault (transition_of self.now.states.now self.now.variables self.now.values) 7 64 base bytes.now }
+    {
+        check_pieces(bytes, base, 7, 64, |seven| self.read_transition(seven))
+    }
+
+    // The transitions of section two.
+    pub(crate) fn read_transitions(
+        &self,
+        heap: Global,
+        bytes: &[u8],
+    ) -> Result<Vec<Transition>, SystemFault>
+        ensures { Built (decoded (transition_of self.now.states.now self.now.variables self.now.values) 7 (length bytes.now / 7) bytes.now) result }
+    {
+        read_pieces(heap, bytes, 7, |seven| self.read_transition(seven))
+    }
 }

@@ -1,6 +1,6 @@
 use Rattle.std.proofs.Common.{◌≡◌, ℕ, ◌+◌, ◌*◌, ◌≤◌}
 use Rattle.files.specs.Directory.{walk}
-use Rattle.files.proofs.directory.pairs_fault.Given as goal
+use Rattle.files.proofs.directory.check_pairs.Given as goal
 
 abbrev pub invariant-loop-i : goal.invariant-loop-i
 invariant-loop-i l =
