@@ -13,17 +13,15 @@ use Rattle.files.specs.declared.transition.Operation.{Operation}
 use Rattle.files.specs.declared.transition.Operation.TheVariants.{Nop, Read, Write, Fence, Exchange}
 use Rattle.files.specs.declared.transition.Transition.{Transition}
 
--- what each passes, the one at i passes
-pub every_at : {X : Type 0} (test : X → Bool) (xs : List X) (i : ℕ) (x : X) → slice_get xs i ≡ Some x → every test xs ≡ true → test x ≡ true
-every_at test [] i x h e = cc
-every_at test (y ∷ ys) zero x h e = let p = (and_parts (test y) (every test ys) e).0 in cc
-every_at test (y ∷ ys) (suc i) x h e = every_at test ys i x h (and_parts (test y) (every test ys) e).1
-
 -- what each passes, the one that is found passes
 pub every_found : {X : Type 0} (test : X → Bool) (xs : List X) (i : ℕ) → every test xs ≡ true → IfSome (slice_get xs i) (λ x. test x ≡ true)
 every_found test [] i e = tt
 every_found test (x ∷ xs) zero e = (and_parts (test x) (every test xs) e).0
 every_found test (x ∷ xs) (suc i) e = every_found test xs i (and_parts (test x) (every test xs) e).1
+
+-- the same, of the one at i
+pub every_at : {X : Type 0} (test : X → Bool) (xs : List X) (i : ℕ) (x : X) → slice_get xs i ≡ Some x → every test xs ≡ true → test x ≡ true
+every_at test xs i x h e = rw h at (every_found test xs i e)
 
 pub between_from : (most n : ℕ) → one_to most n ≡ true → Between 1 most n
 between_from most n h = grind (arith, nat_tests)
