@@ -1,5 +1,5 @@
 -- The pieces of a section, as `chunks_exact` gives them.
-use Rattle.std.proofs.Common.{◌≡◌, ℕ, zero, suc, ◌+◌, ◌*◌, ◌/◌, ◌<◌, ◌≤◌, List, [], ◌∷◌, ◌++◌, length, take, drop, Some, Option, refl, sym, ap, ◌∙◌, arith, add-one}
+use Rattle.std.proofs.Common.{◌≡◌, ℕ, zero, suc, ◌+◌, ◌/◌, ◌<◌, List, [], ◌∷◌, ◌++◌, length, take, drop, refl, sym, ap, ◌∙◌, arith, add-one}
 use Rattle.std.proofs.Math.Nat.{add-div_left, div-eq_of_lt}
 use Rattle.std.proofs.lemmas.List.{length-append, take_at, drop_at}
 use Rattle.std.proofs.lemmas.Iterator.{YieldsList}
@@ -25,7 +25,7 @@ pieces_more width bs x rest h e l =
     let more : length bs / width ≡ suc (length rest / width) = ap (λ k. k / width) n ∙ add-div_left (length rest) h ∙ add-one (length rest / width) in
     let front : take width bs ≡ x = ap (take width) e ∙ take_at x rest width l in
     let back : drop width bs ≡ rest = ap (drop width) e ∙ drop_at x rest width l in
-    ap (λ k. pieces width k bs) more ∙ ap (λ y. y ∷ pieces width (length rest / width) (drop width bs)) front ∙ ap (λ y. x ∷ pieces width (length rest / width) y) back
+    cc
 
 pub YieldsList-from_chunks : {s : _} (width : ℕ) (bs : List ℕ) → 0 < width → chunks_exact_size s ≡ width → chunks_exact_rest s ≡ bs → YieldsList chunks_exact_steps (λ x. x.now) s (pieces_of width bs)
 YieldsList-from_chunks {s} width bs h size rest =

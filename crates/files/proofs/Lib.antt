@@ -2,6 +2,5 @@ mod Walks
 pub mod Decoding
 pub mod Invariant
 pub mod RightFile
-pub mod StateCounts
 pub mod Writes
 pub mod Written

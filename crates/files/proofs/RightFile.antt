@@ -1,8 +1,9 @@
 -- What holds of a file that has no fault.
-use Rattle.std.proofs.Common.{◌≡◌, ℕ, zero, suc, ◌/◌, ◌≤◌, Bool, true, false, cond, List, [], ◌∷◌, ◌++◌, length, get_or, drop, Some, None, Option, refl, ap, ◌∙◌, arith}
-use Rattle.std.proofs.lemmas.List.{length-append, length-drop}
-use Rattle.std.proofs.lemmas.Bool.{and_from, and_parts}
+use Rattle.std.proofs.Common.{◌≡◌, ℕ, suc, ◌/◌, ◌≤◌, Bool, true, false, cond, List, [], ◌∷◌, length, get_or, drop, Some, None, Option, refl, ap, ◌∙◌, arith}
+use Rattle.std.proofs.lemmas.List.{length-drop}
+use Rattle.std.proofs.lemmas.Bool.{and_from}
 use Rattle.std.proofs.lemmas.Bool.Decides.{nat_tests}
+use Rattle.std.proofs.lemmas.Grind.{common_steps}
 use Rattle.std.specs.Option.{option_map, option_or}
 use Rattle.files.specs.Bytes.{two}
 use Rattle.std.specs.List.{cons_option, filter_map}
@@ -10,9 +11,13 @@ use Rattle.files.specs.Pieces.{checked, decoded, every, pieces, section_fault}
 use Rattle.files.proofs.Decoding.{length_pieces}
 use Rattle.files.specs.ReadSystem.{patterns_fault, system_fault, transitions_fault}
 use Rattle.files.specs.Sections.{pairs_fault, section}
-use Rattle.files.specs.Sizes.{counts_fault, right_sizes, sizes_fault}
+use Rattle.files.specs.Sizes.{counts_fault, one_to, right_sizes, sizes_fault}
 use Rattle.files.specs.declared.system_fault.SystemFault.TheVariants.{Sections, Size, Transition, Pattern}
-use Rattle.files.proofs.StateCounts.{counts_right}
+
+-- with no fault each count is 1 to 16
+pub counts_right : (place : ℕ) (ns : List ℕ) → counts_fault place ns ≡ None → every (one_to 16) ns ≡ true
+counts_right place [] h = refl
+counts_right place (n ∷ ns) h = let r : counts_fault place ns ≡ None → every (one_to 16) ns ≡ true = counts_right place ns in grind (arith, common_steps, nat_tests)
 
 four : (a b c d : Option ℕ) → option_or (option_map Sections a) (option_or (option_map Size b) (option_or (option_map Transition c) (option_map Pattern d))) ≡ None → (a ≡ None) × (b ≡ None) × (c ≡ None) × (d ≡ None)
 four (Some n) b c d h = (cc, cc, cc, cc)

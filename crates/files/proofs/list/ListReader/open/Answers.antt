@@ -1,4 +1,4 @@
-use Rattle.std.proofs.Common.{◌≡◌, ℕ, ◌<◌, get_or, None, sym, refl, arith, rules, ◌∙◌}
+use Rattle.std.proofs.Common.{◌≡◌, ℕ, ◌<◌, get_or, None, refl, rules, ◌∙◌}
 use Rattle.files.proofs.Walks.{ok_from_none}
 use Rattle.files.proofs.Writes.{file_again}
 use Rattle.files.proofs.Written.{written_read}
