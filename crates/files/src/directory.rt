@@ -7,7 +7,7 @@ ghost use Rattle.files.specs.Directory.{walk, dir_fault};
 use crate::bytes::two_at;
 use crate::must::must;
 
-// The number of lines, or the place of the directory's first fault.
+// The number of lines, or else the place of the directory's first fault.
 pub(crate) fn line_count(bytes: &[u8]) -> Result<usize, usize>
     ensures fault { result_err result ≡ dir_fault bytes.now }
     ensures count { IfOk result (λ n. n ≡ two bytes.now 0) }
@@ -27,6 +27,7 @@ fn check_pairs(bytes: &[u8], n: usize) -> Result<(), usize>
     ensures { result_err result ≡ walk n 2 (2 + 4 * n) bytes.now }
 {
     let mut due = 2 + 4 * n;
+    // A fault is told by its place in the file, so the loop counts the pairs.
     for i in 0..n {
         let place = 2 + 4 * i;
         must(two_at(bytes, place) == due, place)?;

@@ -3,7 +3,7 @@ ghost use Rattle.std.specs.Prelude.{◌≡◌, None};
 ghost use Rattle.std.specs.Result.{result_err};
 ghost use Rattle.files.specs.Sections.{must};
 
-// The place is the error where the test fails.
+// Where the test fails, the place is the error.
 pub(crate) fn must(test: bool, place: usize) -> Result<(), usize>
     ensures { result_err result ≡ must test place None }
 {

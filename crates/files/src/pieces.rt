@@ -3,6 +3,7 @@ ghost use Rattle.std.specs.Prelude.{◌≡◌, ℕ, ◌+◌, ◌/◌, ◌^◌, �
 ghost use Rattle.std.specs.Result.{result_err};
 ghost use Rattle.files.specs.Pieces.{Built, Reads, decoded, section_fault};
 
+use crate::must::must;
 use crate::system_fault::SystemFault;
 use std::alloc::Global;
 
@@ -20,9 +21,10 @@ pub(crate) fn check_pieces<T: Copy, F: Fn(&[u8]) -> Option<T>>(
     requires takes { (f : _) (piece : _) → length piece.now ≡ width → F.pre f piece }
     ensures { (decode : List ℕ → Option T) → Reads F.Fn read decode → result_err result ≡ section_fault decode width most base bytes.now }
 {
-    if bytes.len() % width != 0 || bytes.len() / width > most {
-        return Err(base);
-    }
+    must(
+        bytes.len() % width == 0 && bytes.len() / width <= most,
+        base,
+    )?;
     bytes
         .chunks_exact(width)
         .map(&read)
