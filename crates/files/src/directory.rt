@@ -13,22 +13,22 @@ pub(crate) fn line_count(bytes: &[u8]) -> Result<usize, usize>
     ensures count { IfOk result (λ n. n ≡ two bytes.now 0) }
 {
     must(bytes.len() >= 2, 0)?;
-    let n = two_at(bytes, 0);
-    must(n <= 1024, 0)?;
-    must(bytes.len() >= 2 + 4 * n, 0)?;
-    check_pairs(bytes, n)?;
-    Ok(n)
+    let count = two_at(bytes, 0);
+    must(count <= 1024, 0)?;
+    must(bytes.len() >= 2 + 4 * count, 0)?;
+    check_pairs(bytes, count)?;
+    Ok(count)
 }
 
 // Looks for the first fault among the pairs, each of which has to begin where the one before it
 // ends, with its place as the error.
-fn check_pairs(bytes: &[u8], n: usize) -> Result<(), usize>
-    requires { (2 + 4 * n ≤ length bytes.now) × (n ≤ 1024) }
-    ensures { result_err result ≡ walk n 2 (2 + 4 * n) bytes.now }
+fn check_pairs(bytes: &[u8], count: usize) -> Result<(), usize>
+    requires { (2 + 4 * count ≤ length bytes.now) × (count ≤ 1024) }
+    ensures { result_err result ≡ walk count 2 (2 + 4 * count) bytes.now }
 {
-    let mut due = 2 + 4 * n;
+    let mut due = 2 + 4 * count;
     // A fault is told by its place in the file, so the loop counts the pairs.
-    for i in 0..n {
+    for i in 0..count {
         let place = 2 + 4 * i;
         must(two_at(bytes, place) == due, place)?;
         due += two_at(bytes, place + 2);

@@ -11,8 +11,8 @@ use crate::must::must;
 pub(crate) fn check_pairs(bytes: &[u8]) -> Result<(), usize>
     ensures { result_err result ≡ pairs_fault bytes.now }
 {
-    let n = bytes.len();
-    must(n >= 12, n)?;
+    let length = bytes.len();
+    must(length >= 12, length)?;
     let first = two_at(bytes, 0);
     let size = two_at(bytes, 2);
     must(first == 12 && size >= 4, 0)?;
@@ -20,7 +20,7 @@ pub(crate) fn check_pairs(bytes: &[u8]) -> Result<(), usize>
     must(second == first + size, 4)?;
     let third = two_at(bytes, 8);
     must(third == second + two_at(bytes, 6), 8)?;
-    must(third + two_at(bytes, 10) == n, n)
+    must(third + two_at(bytes, 10) == length, length)
 }
 
 // The section of a number, in a file whose pairs are right.

@@ -28,10 +28,10 @@ pub(crate) struct Counts<'a> {
     pub(crate) values: u8,
 }
 
-fn is_one_to(most: u8, n: u8) -> bool
-    ensures { result ≡ one_to most n }
+fn is_one_to(most: u8, count: u8) -> bool
+    ensures { result ≡ one_to most count }
 {
-    (1..=most).contains(&n)
+    (1..=most).contains(&count)
 }
 
 // Looks for the first state count that is wrong, with its place as the error.
@@ -40,7 +40,7 @@ fn check_counts(states: &[u8]) -> Result<(), usize>
 {
     states
         .iter()
-        .position(|n| !is_one_to(16, *n))
+        .position(|count| !is_one_to(16, *count))
         .map_or(Ok(()), |i| Err(15 + i))
 }
 
@@ -71,10 +71,11 @@ impl<'a> Counts<'a> {
             values: one[2],
         }
     }
+
     // Whether the process has the state, if one is named.
     pub(crate) fn has_state(&self, process: usize, state: Option<u8>) -> bool
         ensures { result ≡ fits_at self.now.states.now process state }
     {
-        state.is_none_or(|s| self.states.get(process).is_some_and(|count| s < *count))
+        state.is_none_or(|named| self.states.get(process).is_some_and(|count| named < *count))
     }
 }

@@ -68,13 +68,13 @@ impl Counts<'_> {
     }
 
     // Whether the numbers of a transition are the system's.
-    fn has_transition(&self, t: Transition) -> bool
-        ensures { result ≡ is_drawn self.now.states.now self.now.variables self.now.values t }
+    fn has_transition(&self, transition: Transition) -> bool
+        ensures { result ≡ is_drawn self.now.states.now self.now.variables self.now.values transition }
     {
-        let process = usize::from(t.process);
-        self.has_state(process, Some(t.before))
-            && self.has_state(process, Some(t.after))
-            && self.has_operation(t.operation)
+        let process = usize::from(transition.process);
+        self.has_state(process, Some(transition.before))
+            && self.has_state(process, Some(transition.after))
+            && self.has_operation(transition.operation)
     }
 
     // The transition of seven bytes, or None if they are wrong.
@@ -83,13 +83,13 @@ impl Counts<'_> {
         ensures { result ≡ transition_of self.now.states.now self.now.variables self.now.values seven.now }
     {
         let operation = operation_of(seven[2], seven[3], seven[4], seven[5])?;
-        let t = Transition {
+        let transition = Transition {
             process: seven[0],
             before: seven[1],
             operation,
             after: seven[6],
         };
-        self.has_transition(t).then_some(t)
+        self.has_transition(transition).then_some(transition)
     }
 
     // Looks for the first fault of section two, which stands at `base`.

@@ -6,7 +6,7 @@ use Rattle.files.proofs.directory.check_pairs.Goals as goal
 
 pub returns-in_err-must : goal.returns-in_err-must
 returns-in_err-must c =
-    let k = c.args.n - c.loop-i.i - 1 in
+    let k = c.args.count - c.loop-i.i - 1 in
     let e = walk_more k (2 + 4 * c.loop-i.i) c.loop-i.due c.args.bytes.now in
     let inv = c.loop-i.invariant.1 (suc k) (omega arith) in
     let f = c.in_err-must.ensures in
