@@ -5,6 +5,7 @@ ghost use Rattle.files.specs.Pattern.{state_named, fits, pattern_of};
 ghost use Rattle.files.specs.Pieces.{Built, decoded, section_fault};
 
 use crate::pieces::{check_pieces, read_pieces};
+use crate::sections::Section;
 use crate::sizes::Counts;
 use crate::system_fault::SystemFault;
 use std::alloc::Global;
@@ -46,14 +47,13 @@ impl Counts<'_> {
         self.has_states(pattern).then_some(pattern)
     }
 
-    // Looks for the first fault of section three, which stands at `base`.
-    pub(crate) fn check_patterns(&self, bytes: &[u8], base: usize) -> Result<(), usize>
-        requires { (0 < length self.now.states.now) × (base + length bytes.now < 2 ^ 32) }
-        ensures { result_err result ≡ section_fault (pattern_of self.now.states.now) (length self.now.states.now) 16 base bytes.now }
+    // Looks for the first fault of section three.
+    pub(crate) fn check_patterns(&self, section: Section) -> Result<(), usize>
+        requires { (0 < length self.now.states.now) × (section.base + length section.bytes.now < 2 ^ 32) }
+        ensures { result_err result ≡ section_fault (pattern_of self.now.states.now) (length self.now.states.now) 16 section.entry.base section.entry.bytes.now }
     {
         check_pieces(
-            bytes,
-            base,
+            section,
             self.states.len(),
             16,
             |piece| self.read_pattern(piece),

@@ -4,23 +4,24 @@ ghost use Rattle.std.specs.Result.{result_err};
 ghost use Rattle.files.specs.Pieces.{Built, Reads, decoded, section_fault};
 
 use crate::must::must;
+use crate::sections::Section;
 use crate::system_fault::SystemFault;
 use std::alloc::Global;
 
-// Looks for the first fault of a section at `base`, with the place as the error: bytes that are
-// left over, more pieces than `most`, or a piece that `read` finds wrong.
+// Looks for the first fault of a section, with its place as the error: bytes that are left over,
+// more pieces than `most`, or a piece that `read` finds wrong.
 pub(crate) fn check_pieces<T: Copy, F: Fn(&[u8]) -> Option<T>>(
-    bytes: &[u8],
-    base: usize,
+    section: Section,
     width: usize,
     most: usize,
     read: F,
 ) -> Result<(), usize>
     requires wide { 0 < width }
-    requires fits { base + length bytes.now < 2 ^ 32 }
+    requires fits { section.base + length section.bytes.now < 2 ^ 32 }
     requires takes { (f : _) (piece : _) → length piece.now ≡ width → F.pre f piece }
-    ensures { (decode : List ℕ → Option T) → Reads F.Fn read decode → result_err result ≡ section_fault decode width most base bytes.now }
+    ensures { (decode : List ℕ → Option T) → Reads F.Fn read decode → result_err result ≡ section_fault decode width most section.entry.base section.entry.bytes.now }
 {
+    let Section { bytes, base } = section;
     must(
         bytes.len() % width == 0 && bytes.len() / width <= most,
         base,

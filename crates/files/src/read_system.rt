@@ -3,8 +3,7 @@ ghost use Rattle.std.specs.Prelude.{◌≡◌, None};
 ghost use Rattle.std.specs.Result.{result_err};
 ghost use Rattle.files.specs.ReadSystem.{system_fault, Taken};
 
-use crate::bytes::two_at;
-use crate::sections::{check_pairs, section};
+use crate::sections::{Section, check_pairs};
 use crate::sizes::{Counts, check_sizes};
 use crate::system::System;
 use crate::system_fault::SystemFault;
@@ -15,14 +14,14 @@ fn check(bytes: &[u8]) -> Result<(), SystemFault>
     ensures { result_err result ≡ system_fault bytes.now }
 {
     check_pairs(bytes).map_err(SystemFault::Sections)?;
-    let one = section(bytes, 0);
+    let one = Section::of(bytes, 0).bytes;
     check_sizes(one).map_err(SystemFault::Size)?;
     let counts = Counts::of(one);
     counts
-        .check_transitions(section(bytes, 1), two_at(bytes, 4))
+        .check_transitions(Section::of(bytes, 1))
         .map_err(SystemFault::Transition)?;
     counts
-        .check_patterns(section(bytes, 2), two_at(bytes, 8))
+        .check_patterns(Section::of(bytes, 2))
         .map_err(SystemFault::Pattern)
 }
 
@@ -31,10 +30,10 @@ fn build(heap: Global, bytes: &[u8]) -> Result<System, SystemFault>
     requires { system_fault bytes.now ≡ None }
     ensures { Taken bytes.now result }
 {
-    let counts = Counts::of(section(bytes, 0));
+    let counts = Counts::of(Section::of(bytes, 0).bytes);
     let states = Vec::from_slice(heap, counts.states)?;
-    let transitions = counts.read_transitions(heap, section(bytes, 1))?;
-    let patterns = counts.read_patterns(heap, section(bytes, 2))?;
+    let transitions = counts.read_transitions(heap, Section::of(bytes, 1).bytes)?;
+    let patterns = counts.read_patterns(heap, Section::of(bytes, 2).bytes)?;
     Ok(System {
         variables: counts.variables,
         values: counts.values,

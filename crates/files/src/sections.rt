@@ -7,6 +7,13 @@ ghost use Rattle.files.specs.Sections.{pairs_fault, section as section_of};
 use crate::bytes::two_at;
 use crate::must::must;
 
+// A section, with its place in the file.
+#[derive(Clone, Copy)]
+pub(crate) struct Section<'a> {
+    pub(crate) bytes: &'a [u8],
+    pub(crate) base: usize,
+}
+
 // Looks for the first fault of the three pairs, with its place as the error.
 pub(crate) fn check_pairs(bytes: &[u8]) -> Result<(), usize>
     ensures { result_err result ≡ pairs_fault bytes.now }
@@ -23,14 +30,21 @@ pub(crate) fn check_pairs(bytes: &[u8]) -> Result<(), usize>
     must(third + two_at(bytes, 10) == length, length)
 }
 
-// The section of a number, in a file whose pairs are right.
-pub(crate) fn section<'a>(bytes: &'a [u8], number: usize) -> &'a [u8]
-    requires { (pairs_fault bytes.now ≡ None) × (number < 3) }
-    ensures bytes { result.now ≡ section_of number bytes.now }
-    ensures whole { length result.now ≡ two bytes.now (4 * number + 2) }
-    ensures short { length result.now < 65536 }
-{
-    let at = two_at(bytes, 4 * number);
-    let size = two_at(bytes, 4 * number + 2);
-    &bytes[at..at + size]
+impl<'a> Section<'a> {
+    // The section of a number, in a file whose pairs are right.
+    pub(crate) fn of(file: &'a [u8], number: usize) -> Section<'a>
+        requires { (pairs_fault file.now ≡ None) × (number < 3) }
+        ensures bytes { result.bytes.now ≡ section_of number file.now }
+        ensures base { result.base ≡ two file.now (4 * number) }
+        ensures whole { length result.bytes.now ≡ two file.now (4 * number + 2) }
+        ensures low { result.base < 65536 }
+        ensures short { length result.bytes.now < 65536 }
+    {
+        let base = two_at(file, 4 * number);
+        let size = two_at(file, 4 * number + 2);
+        Section {
+            bytes: &file[base..base + size],
+            base,
+        }
+    }
 }

@@ -5,6 +5,7 @@ ghost use Rattle.files.specs.Pieces.{Built, decoded, section_fault};
 ghost use Rattle.files.specs.Transition.{operation_fits, operation_of, is_drawn, transition_of};
 
 use crate::pieces::{check_pieces, read_pieces};
+use crate::sections::Section;
 use crate::sizes::Counts;
 use crate::system_fault::SystemFault;
 use std::alloc::Global;
@@ -92,12 +93,12 @@ impl Counts<'_> {
         self.has_transition(transition).then_some(transition)
     }
 
-    // Looks for the first fault of section two, which stands at `base`.
-    pub(crate) fn check_transitions(&self, bytes: &[u8], base: usize) -> Result<(), usize>
-        requires { base + length bytes.now < 2 ^ 32 }
-        ensures { result_err result ≡ section_fault (transition_of self.now.states.now self.now.variables self.now.values) 7 64 base bytes.now }
+    // Looks for the first fault of section two.
+    pub(crate) fn check_transitions(&self, section: Section) -> Result<(), usize>
+        requires { section.base + length section.bytes.now < 2 ^ 32 }
+        ensures { result_err result ≡ section_fault (transition_of self.now.states.now self.now.variables self.now.values) 7 64 section.entry.base section.entry.bytes.now }
     {
-        check_pieces(bytes, base, 7, 64, |seven| self.read_transition(seven))
+        check_pieces(section, 7, 64, |seven| self.read_transition(seven))
     }
 
     // The transitions of section two.

@@ -18,11 +18,11 @@ position-requires-clause-can g c =
 
 pub returns : goal.returns
 returns g c = λ decode reads.
-    let chunks = YieldsList-at c.map.ensures.source (YieldsList-from_chunks c.args.width c.args.bytes.now c.requires.wide c.chunks_exact.ensures.size c.chunks_exact.ensures.rest) in
+    let chunks = YieldsList-at c.map.ensures.source (YieldsList-from_chunks c.args.width c.args.section.bytes.now c.requires.wide c.chunks_exact.ensures.size c.chunks_exact.ensures.rest) in
     let answers = YieldsList-from_map _ decode chunks c.map.ensures.closure (λ x r q k. (k.met.1, reads x.now r (record { shown = x; shows = refl; says = record { met = k.met.0 } }))) in
     let found = position_from_yields_List (λ answer. not (is_some answer)) _ _ c.position.result c.position.ensures.ran answers (λ x b q k. search rules) in
-    let placed : result_err c.map_or.result ≡ option_map (λ i. c.args.base + c.args.width * i) c.position.result = search rules in
-    let counted : piece_count c.args.width c.args.most c.args.bytes.now ≡ Some (length c.args.bytes.now / c.args.width) = grind (arith, nat_tests) in
+    let placed : result_err c.map_or.result ≡ option_map (λ i. c.args.section.base + c.args.width * i) c.position.result = search rules in
+    let counted : piece_count c.args.width c.args.most c.args.section.bytes.now ≡ Some (length c.args.section.bytes.now / c.args.width) = grind (arith, nat_tests) in
     placed
-    ∙ ap (option_map (λ i. c.args.base + c.args.width * i)) found
-    ∙ sym (ap (λ n. wrong_from n decode c.args.width c.args.base c.args.bytes.now) counted)
+    ∙ ap (option_map (λ i. c.args.section.base + c.args.width * i)) found
+    ∙ sym (ap (λ n. wrong_from n decode c.args.width c.args.section.base c.args.section.bytes.now) counted)
