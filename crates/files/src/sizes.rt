@@ -1,13 +1,12 @@
 // Section one of a system file: the sizes.
-ghost use Rattle.std.specs.Prelude.{◌≡◌, ◌-◌, ◌≤◌, length, drop, slice_index};
+ghost use Rattle.std.specs.Prelude.{◌≡◌, ◌-◌, ◌≤◌, length, drop, slice_index, Some};
 ghost use Rattle.std.specs.Result.{result_err};
 ghost use Rattle.files.specs.Pattern.{fits_at};
 ghost use Rattle.files.specs.Sizes.{one_to, counts_fault, sizes_fault};
 ghost use Rattle.files.specs.Told.{sizes_text};
 
-use std::fmt;
-
 use crate::must::must;
+use std::fmt;
 
 // How many there are of each.
 #[derive(Clone, Copy, PartialEq, Eq, Debug)]
@@ -17,6 +16,19 @@ pub struct Sizes {
     pub values: u8,
     pub transitions: usize,
     pub patterns: usize,
+}
+
+impl fmt::Display for Sizes {
+    ghost output = { λ z. Some (sizes_text z) };
+
+    fn fmt<W: fmt::Write>(&self, f: &mut fmt::Formatter<W>) -> fmt::Result {
+        let (processes, variables, values) = (self.processes, self.variables, self.values);
+        let (transitions, patterns) = (self.transitions, self.patterns);
+        write!(
+            f,
+            "system {processes} {variables} {values} {transitions} {patterns}"
+        )
+    }
 }
 
 // What section one says, by which the transitions and the patterns are judged.
