@@ -1,5 +1,5 @@
 // Which bytes are fronts.
-ghost use Rattle.std.specs.Prelude.{◌≡◌, ◌<◌, ◌≤◌, Decides};
+ghost use Rattle.std.specs.Prelude.{◌≡◌, ◌+◌, ◌<◌, ◌≤◌, length, Decides, IfNone, IfSome, slice_index};
 ghost use Rattle.files.specs.Program.{program};
 ghost use Rattle.fronts.specs.Fronts.{FrontFits, front_len, limit_of};
 
@@ -21,24 +21,54 @@ pub fn limit(system: &System, place: usize) -> u8
     ensures some { 1 ≤ result }
     ensures few { result ≤ 16 }
 {
-    match system.state_count(place) {
-        Some(states) => states,
-        None => system.sizes().values,
-    }
+    system.state_count(place).unwrap_or(system.sizes().values)
 }
 
 // Whether the bytes are a front.
 pub fn front_fits(system: &System, front: &[u8]) -> bool
     ensures { Decides result (FrontFits (program system.now) front.now) }
 {
-    let long = front_length(system);
-    if front.len() != long {
-        return false;
-    }
-    for i in 0..long {
-        if front[i] >= limit(system, i) {
-            return false;
+    front.len() == front_length(system)
+        && front
+            .iter()
+            .enumerate()
+            .all(|(i, byte)| *byte < limit(system, i))
+}
+
+// Bytes that are a front of a system.
+#[derive(Clone, Copy)]
+pub struct Front<'a> {
+    pub system: &'a System,
+    pub bytes: &'a [u8],
+    ghost fits: { FrontFits (program system.now) bytes.now },
+}
+
+impl<'a> Front<'a> {
+    // None exactly when the bytes are no front.
+    pub fn new(system: &'a System, bytes: &'a [u8]) -> Option<Front<'a>>
+        ensures none { IfNone result (FrontFits (program system.now) bytes.now → ⊥) }
+        ensures system { IfSome result (λ front. front.system.now ≡ system.now) }
+        ensures bytes { IfSome result (λ front. front.bytes.now ≡ bytes.now) }
+    {
+        if !front_fits(system, bytes) {
+            return None;
         }
+        Some(Front { system, bytes })
     }
-    true
+
+    // The state of a process.
+    pub fn state(&self, process: usize) -> u8
+        requires { process < length (program self.now.system.now).states }
+        ensures { result ≡ slice_index self.now.bytes.now process }
+    {
+        self.bytes[process]
+    }
+
+    // The value of a variable.
+    pub fn value(&self, variable: usize) -> u8
+        requires { variable < (program self.now.system.now).variables }
+        ensures { result ≡ slice_index self.now.bytes.now (length (program self.now.system.now).states + variable) }
+    {
+        self.bytes[usize::from(self.system.sizes().processes) + variable]
+    }
 }
