@@ -3,4 +3,5 @@ pub mod Configs
 pub mod Numbering
 pub mod Digits
 pub mod Matching
+pub mod Naming
 pub mod BadFronts

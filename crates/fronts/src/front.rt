@@ -57,18 +57,19 @@ impl<'a> Front<'a> {
     }
 
     // The state of a process.
-    pub fn state(&self, process: usize) -> u8
+    pub fn state(&self, process: u8) -> u8
         requires { process < length (program self.now.system.now).states }
         ensures { result ≡ slice_index self.now.bytes.now process }
     {
-        self.bytes[process]
+        self.bytes[usize::from(process)]
     }
 
     // The value of a variable.
-    pub fn value(&self, variable: usize) -> u8
+    pub fn value(&self, variable: u8) -> u8
         requires { variable < (program self.now.system.now).variables }
         ensures { result ≡ slice_index self.now.bytes.now (length (program self.now.system.now).states + variable) }
     {
-        self.bytes[usize::from(self.system.sizes().processes) + variable]
+        let memory = usize::from(self.system.sizes().processes);
+        self.bytes[memory + usize::from(variable)]
     }
 }

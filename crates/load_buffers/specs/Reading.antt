@@ -1,21 +1,15 @@
 -- How a line is read, byte by byte: where it stops being a line, and its row.
-use Rattle.std.specs.Prelude.{◌≡◌, ℕ, zero, suc, ◌+◌, ◌-◌, ◌≤◌, Bool, cond, ◌&&◌, List, [], ◌∷◌, ◌++◌, map, length, take, drop, replicate, Some, None, Ok, Err, Option, Result, nat_lt, slice_index}
+use Rattle.std.specs.Prelude.{◌≡◌, ℕ, zero, suc, ◌+◌, ◌-◌, ◌≤◌, Bool, cond, ◌&&◌, List, [], ◌∷◌, ◌++◌, map, length, take, drop, replicate, Some, None, Option, nat_lt, slice_index}
 use Rattle.files.specs.Program.{Program, sizes_of}
 use Rattle.files.specs.declared.list_fault.LineFault.{LineFault}
 use Rattle.files.specs.declared.list_fault.LineFault.TheVariants.{Byte, Early}
 use Rattle.files.specs.declared.sizes.Sizes.{Sizes}
 use Rattle.fronts.specs.Fronts.{front_len}
+pub use Rattle.fronts.specs.Reading.{below, taken}
 use Rattle.load_buffers.specs.Messages.{variable_of, value_of}
-
-abbrev pub below : ℕ → ℕ → Bool
-below limit b = nat_lt b limit
 
 abbrev pub is_message : Sizes → ℕ → Bool
 is_message z b = nat_lt b 32 && (nat_lt (variable_of b) z.variables && nat_lt (value_of b) z.values)
-
--- the byte at a place, if it passes a test
-abbrev pub taken : (ℕ → Bool) → List ℕ → ℕ → Result ℕ LineFault
-taken test l at = cond (nat_lt at (length l)) (cond (test (slice_index l at)) (Ok (slice_index l at)) (Err (Byte at))) (Err (Early (length l)))
 
 -- what may stand next: one byte that passes a test, or a queue's count with its messages behind it
 pub data Slot : Type 0 where

@@ -3,7 +3,7 @@ ghost use Rattle.std.specs.Prelude.{◌≡◌, ◌≤◌, [], ◌∷◌, map, le
 ghost use Rattle.files.specs.Program.{program, sizes_of};
 ghost use Rattle.fronts.specs.Fronts.{front_len};
 ghost use Rattle.load_buffers.specs.Lines.{line_of};
-ghost use Rattle.load_buffers.specs.Reading.{Faulty, FrontRead, QueueRead, RowRead, below, is_message, line_fault, one, queue as counted, taken, tests};
+ghost use Rattle.load_buffers.specs.Reading.{Faulty, FrontRead, QueueRead, RowRead, is_message, line_fault, one, queue as counted, taken, tests};
 ghost use Rattle.load_buffers.specs.Rows.{Storable, row_length};
 
 use super::layout::{QUEUE, WIDEST, queue_at, row_length};
@@ -12,23 +12,10 @@ use super::rows::{STORED, stored_queue};
 use files::list_fault::LineFault;
 use files::sizes::Sizes;
 use files::system::System;
-use fronts::{front_length, limit};
+use fronts::{byte_below, front_length, limit};
 
 // the line of four processes and four variables with all queues full
 pub(crate) const LONGEST: usize = 44;
-
-// The byte at a place, if it is below a limit.
-fn byte_below(line: &[u8], at: usize, limit: u8) -> Result<u8, LineFault>
-    ensures { result ≡ taken (below limit) line.now at }
-{
-    if at >= line.len() {
-        return Err(LineFault::Early(line.len()));
-    }
-    if line[at] >= limit {
-        return Err(LineFault::Byte(at));
-    }
-    Ok(line[at])
-}
 
 // The message at a place.
 fn message_at(sizes: Sizes, line: &[u8], at: usize) -> Result<u8, LineFault>

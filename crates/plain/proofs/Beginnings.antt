@@ -1,12 +1,23 @@
 -- Which bytes begin a line.
-use Rattle.std.proofs.Common.{ℕ, ◌+◌, ◌-◌, ◌<◌, ◌≤◌, List, ◌++◌, length, get_or, take, replicate, refl, ⊎_elim, arith}
+use Rattle.std.proofs.Common.{◌≡◌, ℕ, ◌+◌, ◌-◌, ◌<◌, ◌≤◌, List, ◌++◌, length, get_or, take, replicate, Some, Err, refl, sym, ap, ◌∙◌, subst, ⊎_elim, arith}
 use Rattle.std.proofs.lemmas.List.{get_or_append_left, get_or-append_right, get_or-replicate, get_or-take, length-append, length-replicate, length-take-le}
 use Rattle.std.proofs.lemmas.Bool.{cases_lt}
+use Rattle.std.proofs.lemmas.Bool.Decides.{nat_tests}
 use Rattle.files.specs.Program.{Program}
-use Rattle.machines.specs.Kind.{Beginning}
+use Rattle.files.specs.declared.list_fault.LineFault.{LineFault}
+use Rattle.files.specs.declared.list_fault.LineFault.TheVariants.{Byte, Early}
+use Rattle.machines.specs.Kind.{Beginning, LineAnswer}
 use Rattle.plain.specs.PlainRules.{plain_rules}
 use Rattle.fronts.specs.Fronts.{FrontFits, front_len, limit_of}
+use Rattle.fronts.specs.Reading.{below, taken}
 use Rattle.fronts.proofs.Systems.{Known, limit_range}
+
+-- a byte that is not taken, and one that is not there
+taken_byte : (limit : ℕ) (l : List ℕ) (i : ℕ) (f : LineFault) → i < length l → Err f ≡ taken (below limit) l i → (f ≡ Byte i) × (limit ≤ get_or l i 0)
+taken_byte limit l i f h e = (grind (arith, nat_tests), grind (arith, nat_tests))
+
+taken_early : (limit : ℕ) (l : List ℕ) (i : ℕ) (f : LineFault) → length l ≤ i → Err f ≡ taken (below limit) l i → f ≡ Early (length l)
+taken_early limit l i f h e = grind (arith, nat_tests)
 
 -- bytes in range, which zeros make a line
 module _ {s : Program} (known : Known s) (l : List ℕ) (short : length l ≤ front_len s) (bytes : (i : ℕ) → i < length l → get_or l i 0 < limit_of s i) where
@@ -52,3 +63,21 @@ no_beginning s l i h out (rest, (r, (f, e))) =
     let b = f.bytes i in
     let g = f.long in
     grind (arith, b, out, same, here, total, g, e)
+
+-- a byte that is missing or out of range, behind bytes in range, is the fault
+pub faulty : {s : Program} → Known s → (l : List ℕ) (i limit : ℕ) (f : LineFault) → i ≤ length l → i < front_len s
+    → ((k : ℕ) → k < i → get_or l k 0 < limit_of s k)
+    → limit ≡ limit_of s i
+    → Err f ≡ taken (below limit) l i
+    → LineAnswer (plain_rules s) l (Some f)
+faulty {s} known l i limit f within h bytes e t =
+    ⊎_elim
+    (λ (p : i < length l).
+    let out = taken_byte limit l i f p t in
+    subst (λ g. LineAnswer (plain_rules s) l (Some g)) (sym out.0)
+    (p, begins_front known l i within (omega arith) bytes, no_beginning s l i p (λ _. omega (arith, out.1))))
+    (λ (p : length l ≤ i).
+    let all : i ≡ length l = omega arith in
+    subst (λ g. LineAnswer (plain_rules s) l (Some g)) (sym (taken_early limit l i f p t))
+    (refl, begins known l (omega arith) (rw all at bytes), λ (r, (fits, same)). let n = ap length same ∙ fits.long in omega arith))
+    (cases_lt i (length l))

@@ -1,27 +1,23 @@
 // Lines, which are the rows themselves.
+ghost use Rattle.std.specs.Result.{result_err};
 ghost use Rattle.files.specs.Program.{program};
 ghost use Rattle.machines.specs.Kind.{LineAnswer};
 ghost use Rattle.plain.specs.PlainRules.{plain_rules};
 
 use files::list_fault::LineFault;
 use files::system::System;
-use fronts::{front_length, limit};
+use fronts::{byte_below, front_length, limit};
 
-// Where the bytes stop being a line.
-pub(crate) fn fault_of(system: &System, line: &[u8]) -> Option<LineFault>
-    ensures { LineAnswer (plain_rules (program system.now)) line.now result }
+// Whether the bytes are a line, or where they stop being one.
+pub(crate) fn check_line(system: &System, line: &[u8]) -> Result<(), LineFault>
+    ensures { LineAnswer (plain_rules (program system.now)) line.now (result_err result) }
 {
     let long = front_length(system);
     for i in 0..long {
-        if i >= line.len() {
-            return Some(LineFault::Early(line.len()));
-        }
-        if line[i] >= limit(system, i) {
-            return Some(LineFault::Byte(i));
-        }
+        byte_below(line, i, limit(system, i))?;
     }
-    if line.len() > long {
-        return Some(LineFault::Byte(long));
+    if long < line.len() {
+        return Err(LineFault::Byte(long));
     }
-    None
+    Ok(())
 }

@@ -1,7 +1,7 @@
 use Rattle.std.proofs.Common.{ℕ, ◌<◌, ◌≤◌, length, get_or}
 use Rattle.files.specs.Program.{program}
 use Rattle.fronts.specs.Fronts.{limit_of}
-use Rattle.plain.proofs.lines.fault_of.Given as goal
+use Rattle.plain.proofs.lines.check_line.Given as goal
 
 abbrev pub invariant-loop-i : goal.invariant-loop-i
 invariant-loop-i l =
