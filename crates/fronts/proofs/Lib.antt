@@ -4,4 +4,5 @@ pub mod Numbering
 pub mod Digits
 pub mod Matching
 pub mod Naming
+pub mod Products
 pub mod BadFronts
