@@ -21,7 +21,9 @@ pub fn limit(system: &System, place: usize) -> u8
     ensures some { 1 ≤ result }
     ensures few { result ≤ 16 }
 {
-    system.state_count(place).unwrap_or(system.sizes().values)
+    system
+        .state_count(place)
+        .unwrap_or_else(|| system.sizes().values)
 }
 
 // Whether the bytes are a front.
