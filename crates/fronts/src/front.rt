@@ -30,11 +30,8 @@ pub fn limit(system: &System, place: usize) -> u8
 pub fn front_fits(system: &System, front: &[u8]) -> bool
     ensures { Decides result (FrontFits (program system.now) front.now) }
 {
-    front.len() == front_length(system)
-        && front
-            .iter()
-            .enumerate()
-            .all(|(i, byte)| *byte < limit(system, i))
+    let long = front_length(system);
+    front.len() == long && (0..long).all(|i| front[i] < limit(system, i))
 }
 
 // Bytes that are a front of a system.
