@@ -1,6 +1,6 @@
 -- A queue of a line, read into ten bytes.
 use Rattle.std.proofs.Common.{◌≡◌, ℕ, suc, ◌+◌, ◌-◌, ◌<◌, ◌≤◌, List, [], ◌∷◌, ◌++◌, map, length, get_or, take, drop, set, replicate, Some, Ok, Err, sym, refl, ap, ◌∙◌, arith}
-use Rattle.std.proofs.lemmas.List.{append_assoc, drop_more, get_or-drop, length-drop, length_push, length-take-le, set_at, take_more}
+use Rattle.std.proofs.lemmas.List.{append_assoc, drop_more, get_or-drop, get_or-set_other, length-drop, length_push, length-take-le, set_at, take_more}
 use Rattle.std.proofs.lemmas.Bool.{ltb-true}
 use Rattle.files.specs.declared.list_fault.LineFault.{LineFault}
 use Rattle.files.specs.declared.sizes.Sizes.{Sizes}
@@ -30,28 +30,29 @@ queue_more l at i j b q f h k v e =
 -- the count at a place is read, and i of its messages
 pub record Partly (z : Sizes) (l : List ℕ) (at count i : ℕ) (q : List ℕ) : Type 0 where
   pub count_is : get_or l at 0 ≡ count
+  pub first : get_or q 0 0 ≡ count
   pub few : count < 9
   pub within : at + 1 + i ≤ length l
   pub ten : q ≡ padded (take (suc i) (drop at l))
   pub on : (k : ℕ) (ss : List Slot) → k + i ≡ count → walk at (queue z ∷ ss) (drop at l) ≡ walk (at + 1 + i) (map one (replicate k (is_message z)) ++ ss) (drop (at + 1 + i) l)
 
 module _ (z : Sizes) (l : List ℕ) (at count : ℕ) where
-  pub partly_none : (n b : ℕ) (q : List ℕ) → Ok b ≡ taken (below 9) l at → count ≡ b → q ≡ replicate n 0 → n ≡ 10 → Partly z l at count 0 (set q 0 b)
-  partly_none n b q t same e h =
-      let g = taken_ok (below 9) l at b t in
+  pub partly_none : Ok count ≡ taken (below 9) l at → Partly z l at count 0 (set (replicate 10 0) 0 count)
+  partly_none t =
+      let g = taken_ok (below 9) l at count t in
       let p = rw g.2 at g.1 in
-      let v : drop at l ≡ b ∷ drop (at + 1) l = drop_more l at 0 g.0 ∙ ap (λ x. x ∷ drop (at + 1) l) g.2 in
+      let v : drop at l ≡ count ∷ drop (at + 1) l = drop_more l at 0 g.0 ∙ ap (λ x. x ∷ drop (at + 1) l) g.2 in
       let o : at + 1 ≡ at + 1 + 0 = omega arith in
-      let w : set q 0 b ≡ b ∷ replicate 9 0 = ap (λ x. set x 0 b) (e ∙ ap (λ m. replicate m 0) h) in
       record {
-        count_is = g.2 ∙ sym same;
-        few = omega (arith, ltb-true b 9 p);
+        count_is = g.2;
+        first = refl;
+        few = omega (arith, ltb-true count 9 p);
         within = omega (arith, g.0);
-        ten = w ∙ ap (λ x. padded (take 1 x)) (sym v);
+        ten = ap (λ x. padded (take 1 x)) (sym v);
         on = λ k ss f.
-            let c : b ≡ k = omega arith in
-            walk_on (queue z) ss l at b g.0 g.2 p
-            ∙ ap (λ x. walk x (map one (replicate b (is_message z)) ++ ss) (drop x l)) o
+            let c : count ≡ k = omega arith in
+            walk_on (queue z) ss l at count g.0 g.2 p
+            ∙ ap (λ x. walk x (map one (replicate count (is_message z)) ++ ss) (drop x l)) o
             ∙ ap (λ x. walk (at + 1 + 0) (map one (replicate x (is_message z)) ++ ss) (drop (at + 1 + 0) l)) c;
       }
 
@@ -62,6 +63,7 @@ module _ (z : Sizes) (l : List ℕ) (at count : ℕ) where
         let o : at + 1 + i + 1 ≡ at + 1 + (i + 1) = omega arith in
         record {
           count_is = part.count_is;
+          first = rw (get_or-set_other q j 0 b 0 (omega arith)) part.first;
           few = part.few;
           within = omega (arith, g.0);
           ten = queue_more l at i j b q e (omega arith) g.0 g.2 part.ten;
@@ -76,8 +78,9 @@ module _ (z : Sizes) (l : List ℕ) (at count : ℕ) where
         let k = count - i - 1 in
         part.on (suc k) ss (omega arith) ∙ taken_err (one (is_message z)) l (at + 1 + i) f part.within t (map one (replicate k (is_message z)) ++ ss)
 
-    pub partly_all : i ≡ count → QueueRead z l at (at + 1 + count) q
+    pub partly_all : i ≡ count → QueueRead z l at (at + (1 + get_or q 0 0)) q
     partly_all e =
         let p : Partly z l at count count q = rw e at part in
         let o : suc count ≡ suc (get_or l at 0) = omega arith in
-        record { within = p.within; end_is = omega arith; ten = rw (← o) p.ten; on = λ ss. p.on 0 ss (omega arith) }
+        let n : at + (1 + get_or q 0 0) ≡ at + 1 + count = omega (arith, p.first) in
+        rw n (record { within = p.within; end_is = omega arith; ten = rw (← o) p.ten; on = λ ss. p.on 0 ss (omega arith) })

@@ -75,19 +75,19 @@ module _ (s : Program) (l : List ℕ) (i : ℕ) (row : List ℕ) (part : Begun s
 
 -- the front of a row, by its states and its values
 module _ (s : Program) (row : List ℕ) (f : ℕ) (here : f ≡ front_len s) where
-  front_byte : (i : ℕ) → i < front_len s → slice_index (take (f - 0) row) i ≡ slice_index row i
-  front_byte i h = get_or-take (f - 0) row i 0 (omega arith)
+  front_byte : (i : ℕ) → i < front_len s → slice_index (take f row) i ≡ slice_index row i
+  front_byte i h = get_or-take f row i 0 (omega arith)
 
-  pub states_from : FrontFits s (take (f - 0) row) → (p : ℕ) → p < length s.states → slice_index row p < slice_index s.states p
+  pub states_from : FrontFits s (take f row) → (p : ℕ) → p < length s.states → slice_index row p < slice_index s.states p
   states_from g p h = rw (front_byte p (omega arith)) at (state_in g p h)
 
-  pub memory_from : FrontFits s (take (f - 0) row) → (x : ℕ) → x < s.variables → slice_index row (length s.states + x) < s.values
+  pub memory_from : FrontFits s (take f row) → (x : ℕ) → x < s.variables → slice_index row (length s.states + x) < s.values
   memory_from g x h = rw (front_byte (length s.states + x) (omega arith)) at (value_in g x h)
 
-  pub front_from : (most : ℕ) → RowFits s most row → FrontFits s (take (f - 0) row)
+  pub front_from : (most : ℕ) → RowFits s most row → FrontFits s (take f row)
   front_from most g =
       record {
-        long = length-take-le (f - 0) row (omega (arith, g.long)) ∙ omega arith;
+        long = length-take-le f row (omega (arith, g.long)) ∙ omega arith;
         bytes = λ i h. rw (front_byte i h) (⊎_elim
             (λ k. rw (limit_state s i k) (g.states i k))
             (λ k.

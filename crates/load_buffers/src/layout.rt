@@ -1,9 +1,10 @@
 // Where the parts of a row lie.
 ghost use Rattle.std.specs.Prelude.{◌≡◌, ◌<◌, ◌≤◌, length};
-ghost use Rattle.files.specs.Program.{Ranges};
+ghost use Rattle.files.specs.Program.{Ranges, program, sizes_of};
 ghost use Rattle.load_buffers.specs.Rows.{queue_at, queue_of, row_length};
 
 use files::sizes::Sizes;
+use files::system::System;
 
 // a queue's count and its nine places
 pub(crate) const QUEUE: usize = 10;
@@ -11,33 +12,45 @@ pub(crate) const QUEUE: usize = 10;
 // the row of four processes and four variables
 pub(crate) const WIDEST: usize = 48;
 
-// Where the queue of a process begins.
-pub(crate) fn queue_at(sizes: Sizes, process: usize) -> usize
-    requires ranges { Ranges sizes }
-    requires process { process ≤ 4 }
-    ensures value { result ≡ queue_at sizes process }
-    ensures small { result ≤ 48 }
-{
-    usize::from(sizes.processes) + usize::from(sizes.variables) + QUEUE * process
+// The sizes of a system, by which its rows are laid out.
+#[derive(Clone, Copy)]
+pub(crate) struct Layout {
+    pub sizes: Sizes,
+    ghost ranges: { Ranges sizes },
 }
 
-// How long a row is.
-pub(crate) fn row_length(sizes: Sizes) -> usize
-    requires { Ranges sizes }
-    ensures value { result ≡ row_length sizes }
-    ensures small { result ≤ 48 }
-{
-    queue_at(sizes, usize::from(sizes.processes))
-}
+impl Layout {
+    pub(crate) fn of(system: &System) -> Layout
+        ensures { result.sizes ≡ sizes_of (program system.now) }
+    {
+        Layout {
+            sizes: system.sizes(),
+        }
+    }
 
-// The ten bytes of a process's queue.
-pub(crate) fn queue_of(sizes: Sizes, row: &[u8], process: usize) -> &[u8]
-    requires ranges { Ranges sizes }
-    requires long { length row.now ≡ row_length sizes }
-    requires process { process < sizes.processes }
-    ensures value { result.now ≡ queue_of sizes process row.now }
-    ensures ten { length result.now ≡ 10 }
-{
-    let at = queue_at(sizes, process);
-    &row[at..at + QUEUE]
+    // Where the queue of a process begins.
+    pub(crate) fn queue_at(self, process: usize) -> usize
+        requires { process ≤ 4 }
+        ensures value { result ≡ queue_at self.sizes process }
+        ensures small { result ≤ 48 }
+    {
+        usize::from(self.sizes.processes) + usize::from(self.sizes.variables) + QUEUE * process
+    }
+
+    // How long a row is.
+    pub(crate) fn row_length(self) -> usize
+        ensures value { result ≡ row_length self.sizes }
+        ensures small { result ≤ 48 }
+    {
+        self.queue_at(usize::from(self.sizes.processes))
+    }
+
+    // The queue of a process.
+    pub(crate) fn queue_of(self, row: &[u8], process: usize) -> &[u8; QUEUE]
+        requires long { length row.now ≡ row_length self.sizes }
+        requires process { process < self.sizes.processes }
+        ensures { result.now ≡ queue_of self.sizes process row.now }
+    {
+        row[self.queue_at(process)..].first_chunk().unwrap()
+    }
 }

@@ -12,6 +12,7 @@ mod order;
 mod queue;
 mod rows;
 mod steps;
+mod stored;
 mod undo;
 
 pub use load_buffers::LoadBuffers;

@@ -7,6 +7,6 @@ use Rattle.load_buffers.proofs.lines.row_of_line.Goals as goal
 pub returns : goal.returns
 returns c =
     let w = row_length (sizes_of (program c.args.system.now)) in
-    let e : row_length c.sizes.result ≡ w = ap row_length c.sizes.ensures.value in
+    let e : row_length c.of.result.sizes ≡ w = ap row_length c.of.ensures in
     let n : length c.fill_row.new.row ≡ w = omega (arith, simp length-take at c.fill_row.auto.row) in
     (c.in_ok-fill_row.ensures.0, take_at c.fill_row.new.row _ w n ∙ c.in_ok-fill_row.ensures.1)

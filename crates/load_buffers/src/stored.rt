@@ -1,0 +1,79 @@
+// Rows that lines have, beside their system, and the queues in them.
+ghost use Rattle.std.specs.Prelude.{◌≡◌, ◌+◌, ◌<◌, ◌≤◌, suc, length, take, MatchOption, slice_index};
+ghost use Rattle.files.specs.Program.{program, sizes_of};
+ghost use Rattle.load_buffers.specs.Rows.{Storable, queue_of};
+
+use super::layout::{Layout, QUEUE};
+use super::rows::{STORED, row_fits};
+use files::system::System;
+
+// The queue of a process in a storable row.
+#[derive(Clone, Copy)]
+pub(crate) struct StoredQueue<'a> {
+    pub bytes: &'a [u8; QUEUE],
+    ghost few: { slice_index bytes.now 0 ≤ 8 },
+}
+
+impl<'a> StoredQueue<'a> {
+    // How many messages it has.
+    pub(crate) fn count(self) -> u8
+        ensures value { result ≡ slice_index self.entry.bytes.now 0 }
+        ensures few { result ≤ 8 }
+    {
+        self.bytes[0]
+    }
+
+    // The bytes in use: the count and the messages.
+    pub(crate) fn in_use(self) -> &'a [u8]
+        ensures value { result.now ≡ take (suc (slice_index self.entry.bytes.now 0)) self.entry.bytes.now }
+        ensures long { length result.now ≡ suc (slice_index self.entry.bytes.now 0) }
+    {
+        let bytes = self.bytes;
+        &bytes[..1 + usize::from(self.count())]
+    }
+}
+
+#[derive(Clone, Copy)]
+pub(crate) struct StoredRow<'a> {
+    pub system: &'a System,
+    pub bytes: &'a [u8],
+    ghost storable: { Storable (program system.now) bytes.now },
+}
+
+impl<'a> StoredRow<'a> {
+    // None where the bytes are no storable row.
+    pub(crate) fn of(system: &'a System, bytes: &'a [u8]) -> Option<StoredRow<'a>>
+        ensures { MatchOption result (Storable (program system.now) bytes.now → ⊥) (λ row. (row.system.now ≡ system.now) × (row.bytes.now ≡ bytes.now)) }
+    {
+        if !row_fits(system, bytes, STORED) {
+            return None;
+        }
+        Some(StoredRow { system, bytes })
+    }
+
+    // The state of a process.
+    pub(crate) fn state(self, process: u8) -> u8
+        requires { process < length (program self.system.now).states }
+        ensures { result ≡ slice_index self.entry.bytes.now process }
+    {
+        self.bytes[usize::from(process)]
+    }
+
+    // The value of a variable in memory.
+    pub(crate) fn value(self, variable: u8) -> u8
+        requires { variable < (program self.system.now).variables }
+        ensures value { result ≡ slice_index self.entry.bytes.now (length (program self.entry.system.now).states + variable) }
+        ensures small { result < 4 }
+    {
+        self.bytes[usize::from(self.system.sizes().processes) + usize::from(variable)]
+    }
+
+    pub(crate) fn queue(self, process: u8) -> StoredQueue<'a>
+        requires { process < length (program self.system.now).states }
+        ensures { result.bytes.now ≡ queue_of (sizes_of (program self.entry.system.now)) process self.entry.bytes.now }
+    {
+        StoredQueue {
+            bytes: Layout::of(self.system).queue_of(self.bytes, usize::from(process)),
+        }
+    }
+}
