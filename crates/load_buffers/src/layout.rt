@@ -1,5 +1,5 @@
 // Where the parts of a row lie.
-ghost use Rattle.std.specs.Prelude.{◌≡◌, ◌<◌, ◌≤◌, length};
+ghost use Rattle.std.specs.Prelude.{◌≡◌, ◌<◌, ◌≤◌, ℕ, [], length, slice_index_or};
 ghost use Rattle.files.specs.Program.{Ranges, program, sizes_of};
 ghost use Rattle.load_buffers.specs.Rows.{queue_at, queue_of, row_length};
 
@@ -45,12 +45,13 @@ impl Layout {
         self.queue_at(usize::from(self.sizes.processes))
     }
 
-    // The queue of a process.
-    pub(crate) fn queue_of(self, row: &[u8], process: usize) -> &[u8; QUEUE]
-        requires long { length row.now ≡ row_length self.sizes }
-        requires process { process < self.sizes.processes }
-        ensures { result.now ≡ queue_of self.sizes process row.now }
+    // The queues of a row, one for each process.
+    pub(crate) fn queues(self, row: &[u8]) -> &[[u8; QUEUE]]
+        requires { length row.now ≡ row_length self.sizes }
+        ensures many { length result.now ≡ self.sizes.processes }
+        ensures each { (p : ℕ) → p < self.sizes.processes → slice_index_or result.now p [] ≡ queue_of self.sizes p row.now }
     {
-        row[self.queue_at(process)..].first_chunk().unwrap()
+        let (queues, _) = row[self.queue_at(0)..].as_chunks();
+        queues
     }
 }

@@ -20,12 +20,10 @@ fn queues_fit(layout: Layout, row: &[u8], most: u8) -> bool
     requires most { most ≤ 9 }
     ensures { Decides result (QueuesFit layout.sizes most row.now) }
 {
-    for p in 0..usize::from(layout.sizes.processes) {
-        if !queue_fits(layout.sizes, layout.queue_of(row, p), most) {
-            return false;
-        }
-    }
-    true
+    layout
+        .queues(row)
+        .iter()
+        .all(|queue| queue_fits(layout.sizes, queue, most))
 }
 
 // Whether the bytes are a row with at most so many messages a queue.
