@@ -26,7 +26,9 @@ fn queues_fit(layout: Layout, row: &[u8], most: u8) -> bool
         .all(|queue| queue_fits(layout.sizes, queue, most))
 }
 
-// Whether the bytes are a row with at most so many messages a queue.
+// Whether the bytes are a row with at most so many messages a queue. A comparison of rows comes here only where the first is
+// below the second, so this stays out of the loops over the lines.
+#[inline(never)]
 pub(crate) fn row_fits(system: &System, row: &[u8], most: u8) -> bool
     requires { most ≤ 9 }
     ensures { Decides result (RowFits (program system.now) most row.now) }

@@ -1,9 +1,11 @@
 // Rows that lines have, beside their system, and the queues in them.
-ghost use Rattle.std.specs.Prelude.{◌≡◌, ◌+◌, ◌<◌, ◌≤◌, suc, length, take, MatchOption, slice_index};
+ghost use Rattle.std.specs.Prelude.{◌≡◌, ◌+◌, ◌<◌, ◌≤◌, ◌==◌, suc, cond, length, take, None, Some, IfSome, MatchOption, slice_index};
 ghost use Rattle.files.specs.Program.{program, sizes_of};
+ghost use Rattle.load_buffers.specs.Backs.{newest_at};
 ghost use Rattle.load_buffers.specs.Rows.{Storable, queue_of};
 
 use super::layout::{Layout, QUEUE};
+use super::queue::newest_own;
 use super::rows::{STORED, row_fits};
 use files::system::System;
 
@@ -16,11 +18,30 @@ pub(crate) struct StoredQueue<'a> {
 
 impl<'a> StoredQueue<'a> {
     // How many messages it has.
-    pub(crate) fn count(self) -> u8
+    pub(crate) fn count(self) -> usize
         ensures value { result ≡ slice_index self.entry.bytes.now 0 }
         ensures few { result ≤ 8 }
     {
-        self.bytes[0]
+        usize::from(self.bytes[0])
+    }
+
+    // The newest message.
+    pub(crate) fn newest(self) -> Option<u8>
+        ensures { let q = self.entry.bytes.now in result ≡ cond (slice_index q 0 == 0) None (Some (slice_index q (slice_index q 0))) }
+    {
+        let count = self.count();
+        if count == 0 {
+            return None;
+        }
+        Some(self.bytes[count])
+    }
+
+    // The place of its newest own message of a variable, if there is one.
+    pub(crate) fn newest_own(self, variable: u8) -> Option<usize>
+        ensures value { let q = self.entry.bytes.now in result ≡ newest_at variable q (slice_index q 0) }
+        ensures below { IfSome result (λ i. i < 8) }
+    {
+        newest_own(self.bytes, self.count(), variable)
     }
 
     // The bytes in use: the count and the messages.
@@ -29,7 +50,7 @@ impl<'a> StoredQueue<'a> {
         ensures long { length result.now ≡ suc (slice_index self.entry.bytes.now 0) }
     {
         let bytes = self.bytes;
-        &bytes[..1 + usize::from(self.count())]
+        &bytes[..1 + self.count()]
     }
 }
 
