@@ -62,6 +62,7 @@ fn fill_row(system: &System, line: &[u8], row: &mut [u8]) -> Result<(), LineFaul
     let layout = Layout::of(system);
     fill_front(system, line, row)?;
     let mut end = front_length(system);
+    // By index: of chunks that are lent to be written, no proof knows what they end as.
     for p in 0..usize::from(layout.sizes.processes) {
         let queue = read_queue(layout.sizes, line, end)?;
         let at = layout.queue_at(p);

@@ -1,4 +1,5 @@
-// Messages as bytes: 16 × own + 4 × variable + value.
+// Messages as bytes: 16 × own + 4 × variable + value. Rows are bytes that lie packed in lent memory, so a message stays one
+// of them, and what it says is read by these functions.
 ghost use Rattle.std.specs.Prelude.{◌≡◌, ◌+◌, ◌*◌, ◌<◌, Decides};
 ghost use Rattle.load_buffers.specs.Messages.{MessageFits, variable_of, value_of, own_of};
 
