@@ -1,11 +1,15 @@
 -- A queue of a line, read into ten bytes.
 use Rattle.std.proofs.Common.{◌≡◌, ℕ, suc, ◌+◌, ◌-◌, ◌<◌, ◌≤◌, List, [], ◌∷◌, ◌++◌, map, length, get_or, take, drop, set, replicate, Some, Ok, Err, sym, refl, ap, ◌∙◌, arith}
-use Rattle.std.proofs.lemmas.List.{append_assoc, drop_more, get_or-drop, get_or-set_other, length-drop, length_push, length-take-le, set_at, take_more}
+use Rattle.std.proofs.lemmas.List.{append_assoc, drop_more, get_or-drop, get_or-take, get_or-set_other, length-drop, length_push, length-take-le, set_at, take_more}
 use Rattle.std.proofs.lemmas.Bool.{ltb-true}
 use Rattle.files.specs.declared.list_fault.LineFault.{LineFault}
 use Rattle.files.specs.declared.sizes.Sizes.{Sizes}
 use Rattle.load_buffers.specs.Reading.{QueueRead, Slot, below, is_message, one, padded, queue, taken, walk}
 use Rattle.load_buffers.specs.Walks.{taken_err, taken_ok, walk_on}
+
+-- the nine places of a queue
+pub place_at : (q : List ℕ) (i : ℕ) → i < 9 → get_or (take 9 (drop 1 q)) i 0 ≡ get_or q (1 + i) 0
+place_at q i h = get_or-take 9 (drop 1 q) i 0 h ∙ get_or-drop 1 q i 0
 
 padded_more : (q : List ℕ) (b : ℕ) → length q < 10 → set (padded q) (length q) b ≡ padded (q ++ b ∷ [])
 padded_more q b h =
