@@ -2,18 +2,8 @@ use Rattle.std.proofs.Common.{◌≡◌, suc, ◌≤◌, length, get_or, take, r
 use Rattle.std.proofs.lemmas.List.{length-append, length-drop, length-take, length-take-le}
 use Rattle.files.specs.Program.{program}
 use Rattle.load_buffers.proofs.Parts.{sizes_are}
-use Rattle.load_buffers.proofs.Puts.{put_all, put_more, put_none}
+use Rattle.load_buffers.proofs.Puts.{put_all, put_more}
 use Rattle.load_buffers.proofs.stored.StoredRow.put_line.Goals as goal
-
-pub loop-p-init : goal.loop-p-init
-loop-p-init c =
-    let s = program c.args.self.system.now in
-    let z = sizes_are s c.sizes-p-end.result c.sizes-p-end.ensures.value in
-    let end = c.front_length-end.result in (
-      simp (length-append, length-drop) (omega arith),
-      put_none s c.args.self.bytes.now c.copy_from_slice.new.self _ end (omega arith)
-          c.copy_from_slice.ensures.after (omega (arith, c.args.self.storable.long)),
-    )
 
 pub loop-p-preserved : goal.loop-p-preserved
 loop-p-preserved c =
