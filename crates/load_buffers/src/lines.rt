@@ -48,6 +48,7 @@ fn read_queue(sizes: Sizes, line: &[u8], at: usize) -> Result<[u8; QUEUE], LineF
     let mut queue = [0; QUEUE];
     let count = byte_below(line, at, STORED + 1)?;
     queue[0] = count;
+    // By index, since a proof does not know what `iter_mut` leaves behind.
     for i in 0..usize::from(count) {
         queue[1 + i] = message_at(sizes, line, at + 1 + i)?;
     }
@@ -62,7 +63,7 @@ fn fill_row(system: &System, line: &[u8], row: &mut [u8]) -> Result<(), LineFaul
     let layout = Layout::of(system);
     fill_front(system, line, row)?;
     let mut end = front_length(system);
-    // By index: of chunks that are lent to be written, no proof knows what they end as.
+    // By index, since a proof does not know what `as_chunks_mut` leaves behind.
     for p in 0..usize::from(layout.sizes.processes) {
         let queue = read_queue(layout.sizes, line, end)?;
         let at = layout.queue_at(p);

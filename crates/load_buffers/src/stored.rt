@@ -1,4 +1,4 @@
-// Rows that lines have, beside their system, and the queues in them.
+// Storable rows and the queues in them.
 ghost use Rattle.std.specs.Prelude.{◌≡◌, ◌+◌, ◌<◌, ◌≤◌, ◌==◌, suc, cond, length, take, None, Some, IfSome, MatchOption, slice_index};
 ghost use Rattle.files.specs.Program.{program, sizes_of};
 ghost use Rattle.load_buffers.specs.Backs.{newest_at};
@@ -54,6 +54,7 @@ impl<'a> StoredQueue<'a> {
     }
 }
 
+// The row of a line, beside its system.
 #[derive(Clone, Copy)]
 pub(crate) struct StoredRow<'a> {
     pub system: &'a System,
@@ -89,6 +90,7 @@ impl<'a> StoredRow<'a> {
         self.bytes[usize::from(self.system.sizes().processes) + usize::from(variable)]
     }
 
+    // The queue of a process.
     pub(crate) fn queue(self, process: u8) -> StoredQueue<'a>
         requires { process < length (program self.system.now).states }
         ensures { result.bytes.now ≡ queue_of (sizes_of (program self.entry.system.now)) process self.entry.bytes.now }
