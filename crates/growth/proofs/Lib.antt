@@ -1,4 +1,3 @@
 pub mod Candidates
 pub mod Minimal
 pub mod Sought
-pub mod Starts

@@ -1,3 +1,4 @@
 pub mod Checked
 pub mod Cover
 pub mod Rows
+pub mod Turns

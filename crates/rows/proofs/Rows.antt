@@ -1,10 +1,10 @@
 -- On rows that lie packed in memory.
 use Rattle.std.proofs.Common.{◌≡◌, ℕ, zero, suc, ◌+◌, ◌-◌, ◌*◌, ◌/◌, ◌<◌, ◌≤◌, List, [], ◌∷◌, ◌++◌, length, get_or, take, drop, sym, refl, ap, ◌∙◌, subst, append-nil, mul-le-mul_right, suc-mul, add-mul, mul-le-mul, one-mul, zero-mul, arith}
 use Rattle.std.proofs.lemmas.Nat.{div-add-mod'}
-use Rattle.std.proofs.lemmas.List.{drop-drop, drop-append-le, take-append-le, take_at, nil_from_length, length-take-le, length-append, length-drop, take-replicate, drop-replicate}
+use Rattle.std.proofs.lemmas.List.{drop-drop, drop-append-le, take-append-le, take_at, nil_from_length, length-take-le, length-append, length-drop}
 use Rattle.rows.specs.Checks.{places}
 use Rattle.rows.specs.Search.{Line, Lowest, Never}
-use Rattle.rows.specs.Standing.{row_at, standing, zeros}
+use Rattle.rows.specs.Standing.{row_at, standing}
 
 -- row i of n ends within n rows
 pub row_end : (i n w : ℕ) → i < n → i * w + w ≤ n * w
@@ -24,14 +24,8 @@ places_fit n w memory h = let q : n * w ≤ memory / w * w = mul-le-mul_right w 
 pub front_long : (w : ℕ) (s : List ℕ) → w ≤ length s → length (take (w - 0) s) ≡ w
 front_long w s h = length-take-le (w - 0) s (omega arith) ∙ omega arith
 
-pub front_zeros : (w n : ℕ) (s : List ℕ) → w ≤ n → s ≡ zeros n → take (w - 0) s ≡ zeros w
-front_zeros w n s h e = ap (λ l. take (w - 0) l) e ∙ take-replicate (w - 0) n 0 (omega arith) ∙ ap (λ k. zeros k) (omega arith)
-
-pub front_kept : (w : ℕ) (x s : List ℕ) → w ≤ length s → length x ≡ w → length (x ++ drop (w - 0) s) ≡ length s
+pub front_kept : (w : ℕ) (x s : List ℕ) → w ≤ length s → length x ≡ w → length (x ++ drop w s) ≡ length s
 front_kept w x s h e = simp (length-append, length-drop) (omega arith)
-
-pub tail_zeros : (w n : ℕ) (z : List ℕ) → z ≡ zeros n → drop (w - 0) z ≡ zeros (n - w)
-tail_zeros w n z e = ap (λ l. drop (w - 0) l) e ∙ drop-replicate (w - 0) n 0 ∙ ap (λ k. zeros k) (omega arith)
 
 pub standing_length : (w n : ℕ) (mem : List ℕ) → length (standing w n mem) ≡ n
 unfolding standing

@@ -2,11 +2,13 @@
 #![tactic(auto)]
 
 mod fault;
+pub mod iter;
 mod lines;
 mod search;
+mod storable;
 mod strip;
 
 pub use fault::FolderFault;
 pub use lines::{Lines, MOST_LINES, WIDEST};
-pub use search::{covering, first_start, first_unstorable, is_uncovered};
+pub use storable::Storable;
 pub use strip::Strip;

@@ -1,4 +1,4 @@
-use Rattle.std.proofs.Common.{sym, ◌∙◌, arith}
+use Rattle.std.proofs.Common.{◌*◌, take, drop, sym, ap, ◌∙◌, arith}
 use Rattle.rows.proofs.Rows.{standing_at, standing_length}
 use Rattle.rows.proofs.lines.Lines.row.Goals as goal
 
@@ -11,5 +11,6 @@ returns-then-number-self c =
 pub returns : goal.returns
 returns c =
     let v = c.args.self.now in
+    let from = c.args.number * v.width in
     let n = standing_length v.width v.count v.bytes.now in
-    (omega arith, c.row_at.ensures ∙ sym (standing_at v.width v.count v.bytes.now c.args.number (omega arith)))
+    (omega arith, ap (λ w. take w (drop from v.bytes.now)) (omega arith) ∙ sym (standing_at v.width v.count v.bytes.now c.args.number (omega arith)))
