@@ -37,6 +37,7 @@ fn file_len<M: Machine>(lines: &Storable<M>) -> usize
     ensures { result ≡ length (file_of (M.Machine.rules lines.now.machine) lines.now.rows) }
 {
     let mut size = 2 + 4 * lines.count();
+    // In the closure of a sum it would not be known that the row is storable.
     for row in lines.rows() {
         size += line_len(lines, row);
     }

@@ -6,7 +6,7 @@ ghost use Rattle.rows.specs.Standing.{rows_left, rows_of};
 use super::lines::Lines;
 
 // The rows that are still to come.
-#[derive(Clone, Drop)]
+#[derive(Drop)]
 pub struct Rows<'a> {
     left: Lines<'a>,
 }

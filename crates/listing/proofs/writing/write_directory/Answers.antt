@@ -19,12 +19,6 @@ append_pair-at-requires g c =
     let here = row_turn ls c.into_iter-row-iterator.result c.loop-row.row-iterator c.next.new.self c.loop-row.yielded c.next.result (cc) c.loop-row.yielded_by c.next.ensures.steps c.in-Some.row c.in-Some.is in
     record { room = omega (arith, here.0); low = omega (arith, here.0, c.rows-row-items.ensures.few); short = omega arith }
 
-pub overflow_add-offset-in-loop-row : goal.overflow_add-offset-in-loop-row
-overflow_add-offset-in-loop-row g c =
-    let ls = c.args.lines.now.rows in
-    let here = row_turn ls c.into_iter-row-iterator.result c.loop-row.row-iterator c.next.new.self c.loop-row.yielded c.next.result (cc) c.loop-row.yielded_by c.next.ensures.steps c.in-Some.row c.in-Some.is in
-    omega (arith, here.0, c.rows-row-items.ensures.few)
-
 pub loop-row-preserved : goal.loop-row-preserved
 loop-row-preserved g c =
     let u = g.M.Machine.rules c.args.lines.now.machine in
