@@ -18,37 +18,36 @@ use Rattle.folder.specs.Answers.{JudgeAnswer, TakeInAnswer}
 use Rattle.folder.specs.Calls.{KeptBehind, Ruled, TakenIn, take_in_checks}
 use Rattle.folder.proofs.Adding.{added_each}
 
+-- rows that fit into memory have places
+pub rows_placed : (w n memory : ℕ) → n ≤ 1024 → 0 < w → n * w ≤ memory → n ≤ places w memory
+rows_placed w n memory few some held = let q : n ≤ memory / w = le-div n memory w some held in omega arith
+
 -- what holds of the number of rows holds of the count
 by_count : (w n : ℕ) (m : List ℕ) (P : ℕ → Type 0) → P (length (standing w n m)) → P n
 by_count w n m P h = subst P (standing_length w n m) h
 
--- lines that fit into memory have places
-has_places : (n w memory : ℕ) → n ≤ 1024 → 0 < w → n * w ≤ memory → n ≤ places w memory
-has_places n w memory few some h = let q : n ≤ memory / w = le-div n memory w some h in omega arith
-
-module _ (k : Kind) (u : Rules) (n : ℕ) (m file : List ℕ) (few : n ≤ 1024) (some : 0 < k.width) where
+module _ (k : Kind) (u : Rules) (n : ℕ) (m file : List ℕ) where
   abbrev before_call : List (List ℕ)
   before_call = standing k.width n m
 
-  take_in_refused : (n' : ℕ) (m' : List ℕ) (e : FolderFault) → (take_in_checks k u (length m) file before_call).Fails e → n' ≡ n → m' ≡ m → TakeInAnswer k u n n' m m' file (Err e)
-  take_in_refused n' m' e (inl (short, f)) hn hm =
-      subst (λ x. TakeInAnswer k u n n' m m' file (Err x)) (sym f)
-      (by_count k.width n m (λ i. length m < i * k.width) short, ap (λ i. i * k.width) (standing_length k.width n m), hn, hm)
-  take_in_refused n' m' e (inr (held, inl (at, wrong, f))) hn hm =
-      subst (λ x. TakeInAnswer k u n n' m m' file (Err x)) (sym f) (by_count k.width n m (λ i. i * k.width ≤ length m) held, wrong, hn, hm)
-  take_in_refused n' m' e (inr (held, inr (right, inl (i, l, h, all, wrong, f)))) hn hm =
-      subst (λ x. TakeInAnswer k u n n' m m' file (Err x)) (sym f) (by_count k.width n m (λ q. q * k.width ≤ length m) held, right, h, all, wrong, hn, hm)
-  take_in_refused n' m' e (inr (held, inr (right, inr (all, (full, f))))) hn hm =
+  -- what take in answers where it is turned down
+  pub take_in_refused : (n * k.width ≤ length m → n ≤ places k.width (length m)) → (e : FolderFault) → (take_in_checks k u (length m) file before_call).Fails e → TakeInAnswer k u n n m m file (Err e)
+  take_in_refused placed e (inl (short, f)) =
+      subst (λ x. TakeInAnswer k u n n m m file (Err x)) (sym f)
+      (by_count k.width n m (λ i. length m < i * k.width) short, ap (λ i. i * k.width) (standing_length k.width n m), refl, refl)
+  take_in_refused placed e (inr (held, inl (at, wrong, f))) =
+      subst (λ x. TakeInAnswer k u n n m m file (Err x)) (sym f) (by_count k.width n m (λ i. i * k.width ≤ length m) held, wrong, refl, refl)
+  take_in_refused placed e (inr (held, inr (right, inl (i, l, h, all, wrong, f)))) =
+      subst (λ x. TakeInAnswer k u n n m m file (Err x)) (sym f) (by_count k.width n m (λ q. q * k.width ≤ length m) held, right, h, all, wrong, refl, refl)
+  take_in_refused placed e (inr (held, inr (right, inr (all, (full, f))))) =
       let room = by_count k.width n m (λ i. i * k.width ≤ length m) held in
-      let free = has_places n k.width (length m) few some room in
+      let free = placed room in
       let more = by_count k.width n m (λ i. places k.width (length m) < i + two file 0) full in
-      subst (λ x. TakeInAnswer k u n n' m m' file (Err x)) (sym f) (room, right, all, omega arith, standing_length k.width n m, hn, hm)
+      subst (λ x. TakeInAnswer k u n n m m file (Err x)) (sym f) (room, right, all, omega arith, standing_length k.width n m, refl, refl)
 
-  -- what take in answers
-  pub take_in_answer : (n' : ℕ) (m' : List ℕ) (r : Result Unit FolderFault) → TakenIn k u (length m) file before_call r (standing k.width n' m') → KeptBehind k.width n' m m' r → TakeInAnswer k u n n' m m' file r
-  take_in_answer n' m' (Err e) (fails, same) kept =
-      take_in_refused n' m' e fails (sym (standing_length k.width n' m') ∙ ap length same ∙ standing_length k.width n m) kept
-  take_in_answer n' m' (Ok x) ((held, (right, (all, free))), (rows, each, stand)) kept =
+  -- and where it is not
+  pub take_in_done : (n' : ℕ) (m' : List ℕ) → TakenIn k u (length m) file before_call (Ok tt) (standing k.width n' m') → KeptBehind {A = Unit {0}} k.width n' m m' (Ok tt) → TakeInAnswer k u n n' m m' file (Ok tt)
+  take_in_done n' m' ((held, (right, (all, free))), (rows, each, stand)) kept =
       let w = k.width in
       let long : length rows ≡ two file 0 = sym (length_all_zip (RowOf u) (lines_of file) rows each) ∙ length_lines (two file 0) 0 file in
       let total : n' ≡ n + two file 0 =
@@ -73,7 +72,7 @@ module _ (k : Kind) (u : Rules) (n : ℕ) (m s s' t t' : List ℕ) where
   abbrev Left : FolderFault → Type 0
   Left e = s' ≡ wiped {A = Verdict} (Err e) s → t' ≡ wiped {A = Verdict} (Err e) t → JudgeAnswer k u n m s s' t t' (Err e)
 
-  judge_refused : (e : FolderFault) → (holds_rows k.width (length rows) (length m) before judge_checks k u rows (length s) (length t)).Fails e → Left e
+  pub judge_refused : (e : FolderFault) → (holds_rows k.width (length rows) (length m) before judge_checks k u rows (length s) (length t)).Fails e → Left e
   judge_refused e (inl (short, f)) =
       subst Left (sym f)
       (λ hs ht. (inl (by_count k.width n m (λ i. length m < i * k.width) short, ap (λ i. i * k.width) (standing_length k.width n m)), hs, ht))

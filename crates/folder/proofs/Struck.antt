@@ -9,21 +9,6 @@ use Rattle.rows.specs.Standing.{standing, zeros}
 use Rattle.rows.proofs.Rows.{standing_append, standing_front, standing_length, standing_one}
 use Rattle.folder.proofs.Adding.{one_more}
 
--- one byte more is moved
-pub shift_more : (m m0 : List ℕ) (from gap len i : ℕ) → from + gap + len ≤ length m0 → i < len → m ≡ paste m0 from (drop (from + gap) m0) i
-    → set m (from + i) (get_or m (from + gap + i) 0) ≡ paste m0 from (drop (from + gap) m0) (i + 1)
-shift_more m m0 from gap len i long h e =
-    let s = drop (from + gap) m0 in
-    let p = paste m0 from s i in
-    let ls : length s ≡ length m0 - (from + gap) = length-drop (from + gap) m0 in
-    let q : from + gap + i ≡ from + i + gap = omega arith in
-    let v : get_or m (from + gap + i) 0 ≡ get_or s i 0 =
-    ap (λ l. get_or l (from + gap + i) 0) e ∙ ap (λ n. get_or p n 0) q ∙ sym (get_or-drop (from + i) p gap 0)
-    ∙ ap (λ l. get_or l gap 0) (drop-paste m0 from s i (omega arith) (omega arith)) ∙ get_or-drop (from + i) m0 gap 0
-    ∙ ap (λ n. get_or m0 n 0) (sym q) ∙ sym (get_or-drop (from + gap) m0 i 0)
-    in
-    ap (λ l. set l (from + i) (get_or m (from + gap + i) 0)) e ∙ ap (λ x. set p (from + i) x) v ∙ paste_more m0 from s i 0 (omega arith) (omega arith)
-
 -- the bytes of a rows, one row and b rows more
 pub rows_around : (w a b : ℕ) → (a + suc b) * w ≡ a * w + (w + b * w)
 rows_around w a b = add-mul a (suc b) w ∙ ap (λ q. a * w + q) (ap (λ i. i * w) (omega arith) ∙ one_more b w ∙ omega arith)

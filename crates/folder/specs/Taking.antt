@@ -4,10 +4,16 @@ use Rattle.std.specs.List.{AllZip}
 use Rattle.files.specs.Directory.{line_of, lines_from}
 use Rattle.files.specs.declared.list_fault.ListFault.{ListFault}
 use Rattle.files.specs.declared.list_fault.ListFault.TheVariants.{Directory, Line as Wrong}
-use Rattle.machines.specs.Kind.{Kind, Rules, LineAnswer}
+use Rattle.machines.specs.Kind.{Kind, Rules, IsLine, LineAnswer}
 use Rattle.rows.specs.Checks.{AllLines}
 use Rattle.rows.specs.Standing.{standing}
 use Rattle.rows.specs.Listing.{RowOf}
+
+-- of a line that is there: it is not wrong, or where it is
+abbrev pub FaultAt : Rules → List ℕ → ℕ → Option ListFault → Type 0
+FaultAt u file i None = IsLine u (line_of file i)
+FaultAt u file i (Some (Directory at)) = ⊥
+FaultAt u file i (Some (Wrong j f)) = (j ≡ i) × LineAnswer u (line_of file i) (Some f)
 
 -- of a right file with n lines: no line is wrong, or the first that is
 abbrev pub FirstFault : Rules → List ℕ → ℕ → Option ListFault → Type 0

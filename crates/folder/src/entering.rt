@@ -14,13 +14,12 @@ impl<M: Machine> Folder<M> {
         ensures rows { let k = M.OrderedRow.kind self.old.machine in Entered k (M.Machine.rules self.old.machine) (length memory.old) line.now (standing k.width self.old.count memory.old) result (standing k.width self.new.count memory.new) }
         ensures behind { KeptBehind (M.OrderedRow.kind self.old.machine).width self.new.count memory.old memory.new result }
     {
-        let end = self.standing_bytes(memory.len())?;
+        let end = self.standing_bytes(memory)?;
+        // The machine hands the fault out as its answer, so there is nothing here for a `?`.
         if let Some(fault) = self.machine.line_fault(line) {
             return Err(FolderFault::Line(fault));
         }
-        if self.count >= self.places(memory.len()) {
-            return Err(FolderFault::Full(self.count));
-        }
+        self.check_room(memory, 1)?;
         let width = self.machine.row_len();
         self.machine.read_line(line, &mut memory[end..end + width]);
         self.count += 1;

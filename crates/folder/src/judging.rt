@@ -9,7 +9,7 @@ ghost use Rattle.folder.specs.Calls.{Ruled};
 use super::folder::Folder;
 use judge::{Verdict, judge_lines};
 use machines::{Machine, OrderedRow};
-use rows::{FolderFault, Lines};
+use rows::FolderFault;
 
 impl<M: Machine> Folder<M> {
     // Judges the standing rows. The strip is all zero after; the witness holds an uncovered row at bad and leak.
@@ -25,12 +25,6 @@ impl<M: Machine> Folder<M> {
         ensures witness { let k = M.OrderedRow.kind self.now.machine in WitnessLeft k (M.Machine.rules self.now.machine) (standing k.width self.now.count memory.now) result witness.old witness.new }
         ensures safe { SafeHolds (M.Machine.rules self.now.machine) result }
     {
-        let _held = self.standing_bytes(memory.len())?;
-        let lines = Lines {
-            bytes: memory,
-            width: self.machine.row_len(),
-            count: self.count,
-        };
-        judge_lines(&self.machine, &lines, strip, witness)
+        judge_lines(&self.machine, &self.lines(memory)?, strip, witness)
     }
 }

@@ -1,22 +1,11 @@
 // Striking one line.
-ghost use Rattle.std.specs.Prelude.{◌≡◌, ◌+◌, ◌≤◌, length, drop};
-ghost use Rattle.std.proofs.Math.Seq.{paste};
+ghost use Rattle.std.specs.Prelude.{◌≡◌, length};
 ghost use Rattle.rows.specs.Standing.{standing};
 ghost use Rattle.folder.specs.Calls.{ClosedUp, Struck};
 
 use super::folder::Folder;
 use machines::{Machine, OrderedRow};
 use rows::FolderFault;
-
-// Moves `len` bytes from `gap` bytes further on to `from`.
-fn shift(memory: &mut [u8], from: usize, gap: usize, len: usize)
-    requires { from + gap + len ≤ length memory.old }
-    ensures { memory.new ≡ paste memory.old from (drop (from + gap) memory.old) len }
-{
-    for i in 0..len {
-        memory[from + i] = memory[from + gap + i];
-    }
-}
 
 impl<M: Machine> Folder<M> {
     // Takes a line out: later rows move one place forward, and the bytes of the last one become zero.
@@ -25,14 +14,14 @@ impl<M: Machine> Folder<M> {
         ensures rows { let w = (M.OrderedRow.kind self.old.machine).width in Struck w (length memory.old) number (standing w self.old.count memory.old) result (standing w self.new.count memory.new) }
         ensures behind { ClosedUp (M.OrderedRow.kind self.old.machine).width self.new.count memory.old memory.new result }
     {
-        let end = self.standing_bytes(memory.len())?;
+        let end = self.standing_bytes(memory)?;
         if number >= self.count {
             return Err(FolderFault::NoLine(number));
         }
         let width = self.machine.row_len();
         let from = number * width;
         let last = end - width;
-        shift(memory, from, width, last - from);
+        memory.copy_within(from + width..end, from);
         memory[last..end].fill(0);
         self.count -= 1;
         Ok(())

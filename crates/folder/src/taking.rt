@@ -1,12 +1,12 @@
 // Taking a list file in.
-ghost use Rattle.std.specs.Prelude.{◌≡◌, ◌+◌, ◌*◌, ◌≤◌, length, None};
+ghost use Rattle.std.specs.Prelude.{◌≡◌, ◌+◌, ◌*◌, ◌<◌, ◌≤◌, length, None};
 ghost use Rattle.files.specs.Bytes.{two};
 ghost use Rattle.files.specs.Directory.{dir_fault};
 ghost use Rattle.rows.specs.Checks.{AllLines};
 ghost use Rattle.rows.specs.Standing.{standing};
-ghost use Rattle.folder.specs.Answers.{Added, TakeInAnswer};
+ghost use Rattle.folder.specs.Answers.{TakeInAnswer};
 ghost use Rattle.folder.specs.Calls.{KeptBehind, Rewrites, TakenIn};
-ghost use Rattle.folder.specs.Taking.{FirstFault, LinesAdded};
+ghost use Rattle.folder.specs.Taking.{FaultAt, FirstFault, LinesAdded};
 
 use super::folder::Folder;
 use files::list::ListReader;
@@ -14,40 +14,37 @@ use files::list_fault::ListFault;
 use machines::{Machine, OrderedRow};
 use rows::FolderFault;
 
+// The fault of a line, if it is a wrong one.
+fn fault_at<M: Machine>(machine: &M, list: &ListReader, number: usize) -> Option<ListFault>
+    requires right { dir_fault list.now.bytes.now ≡ None }
+    requires count { list.now.count ≡ two list.now.bytes.now 0 }
+    requires within { number < list.now.count }
+    ensures { FaultAt (M.Machine.rules machine.now) list.now.bytes.now number result }
+{
+    let line = list.line(number)?;
+    let fault = machine.line_fault(line.bytes)?;
+    Some(ListFault::Line(number, fault))
+}
+
 // The fault of the lowest wrong line.
 fn first_fault<M: Machine>(machine: &M, list: &ListReader) -> Option<ListFault>
     requires right { dir_fault list.now.bytes.now ≡ None }
     requires count { list.now.count ≡ two list.now.bytes.now 0 }
     ensures { FirstFault (M.Machine.rules machine.now) list.now.bytes.now list.now.count result }
 {
-    for i in 0..list.count() {
-        if let Some(line) = list.line(i) {
-            if let Some(fault) = machine.line_fault(line.bytes) {
-                return Some(ListFault::Line(line.number, fault));
-            }
-        }
-    }
-    None
+    (0..list.count()).find_map(|number| fault_at(machine, list, number))
 }
 
 // Writes the rows of the lines one after another, behind those that stand.
-fn write_rows<M: Machine>(
-    machine: &M,
-    list: &ListReader,
-    memory: &mut [u8],
-    standing: usize,
-    width: usize,
-)
+fn write_rows<M: Machine>(machine: &M, list: &ListReader, memory: &mut [u8], standing: usize)
     requires right { dir_fault list.now.bytes.now ≡ None }
     requires count { list.now.count ≡ two list.now.bytes.now 0 }
     requires lines { AllLines (M.Machine.rules machine.now) list.now.bytes.now list.now.count }
     requires few { standing + list.now.count ≤ 1024 }
-    requires narrow { width ≤ 60 }
-    requires wide { width ≡ (M.OrderedRow.kind machine.now).width }
-    requires room { (standing + list.now.count) * width ≤ length memory.old }
-    ensures added { Added (M.OrderedRow.kind machine.now) (M.Machine.rules machine.now) list.now.bytes.now standing list.now.count memory.old memory.new }
-    ensures each { LinesAdded (M.OrderedRow.kind machine.now) (M.Machine.rules machine.now) list.now.bytes.now standing list.now.count memory.old memory.new }
+    requires room { (standing + list.now.count) * (M.OrderedRow.kind machine.now).width ≤ length memory.old }
+    ensures { LinesAdded (M.OrderedRow.kind machine.now) (M.Machine.rules machine.now) list.now.bytes.now standing list.now.count memory.old memory.new }
 {
+    let width = machine.row_len();
     for i in 0..list.count() {
         if let Some(line) = list.line(i) {
             let at = (standing + i) * width;
@@ -66,16 +63,14 @@ impl<M: Machine> Folder<M> {
         ensures behind { KeptBehind (M.OrderedRow.kind self.old.machine).width self.new.count memory.old memory.new result }
         ensures again { let k = M.OrderedRow.kind self.old.machine in Rewrites (M.Machine.rules self.old.machine) file.now (standing k.width self.old.count memory.old) result (standing k.width self.new.count memory.new) }
     {
-        let width = self.machine.row_len();
-        let _held = self.standing_bytes(memory.len())?;
+        self.standing_bytes(memory)?;
         let list = ListReader::open(file)?;
+        // The search hands the fault out as what it found, so there is nothing here for a `?`.
         if let Some(fault) = first_fault(&self.machine, &list) {
             return Err(FolderFault::List(fault));
         }
-        if self.count + list.count() > self.places(memory.len()) {
-            return Err(FolderFault::Full(self.count));
-        }
-        write_rows(&self.machine, &list, memory, self.count, width);
+        self.check_room(memory, list.count())?;
+        write_rows(&self.machine, &list, memory, self.count);
         self.count += list.count();
         Ok(())
     }

@@ -7,7 +7,7 @@ ghost use Rattle.folder.specs.Calls.{Retaken, WrittenOut};
 use super::folder::Folder;
 use listing::write_list;
 use machines::{Machine, OrderedRow};
-use rows::{FolderFault, Lines};
+use rows::FolderFault;
 
 impl<M: Machine> Folder<M> {
     // Writes all lines as a list file to the front of a place, and gives the file's length. Taken into an
@@ -17,12 +17,6 @@ impl<M: Machine> Folder<M> {
         ensures kept { KeptIfRefused result place.old place.new }
         ensures again { let k = M.OrderedRow.kind self.now.machine in Retaken k (M.Machine.rules self.now.machine) (standing k.width self.now.count memory.now) result }
     {
-        let _held = self.standing_bytes(memory.len())?;
-        let lines = Lines {
-            bytes: memory,
-            width: self.machine.row_len(),
-            count: self.count,
-        };
-        write_list(&self.machine, &lines, place)
+        write_list(&self.machine, &self.lines(memory)?, place)
     }
 }

@@ -1,13 +1,18 @@
-use Rattle.std.proofs.Common.{subst, arith, below_more}
-use mathlib.Core.Bool.{false≢true}
-use Rattle.machines.specs.Kind.{IsLine}
+use Rattle.std.proofs.Common.{ℕ, subst, rules, arith}
+use Rattle.std.specs.Iterator.Runs.{ItemsCountUp}
+use Rattle.std.specs.declared.ops.Range.{Range}
+use Rattle.std.proofs.iter.runs.Sources.{range_runs}
+use Rattle.folder.specs.Taking.{FaultAt, FirstFault}
+use Rattle.folder.proofs.Taken.{first_found}
+use Rattle.folder.proofs.Searching.{found_first}
 use Rattle.folder.proofs.taking.first_fault.Goals as goal
-use Rattle.folder.proofs.taking.first_fault.Goals.{in-Some+in_default-line_fault, in_default}
 
-pub loop-i-preserved : goal.loop-i-preserved
-loop-i-preserved g c =
+pub returns : goal.returns
+returns g c =
     let u = g.M.Machine.rules c.args.machine.now in
-    elim c.match-line.branch [
-      | in-Some+in_default-line_fault w ↦ below_more _ _ c.loop-i.invariant (subst (IsLine u) w.in-Some.ensures.handed.3 w.in_default-line_fault.ensures)
-      | in_default w ↦ absurd (false≢true (w.in_default.ensures.every c.requires.right c.requires.count (omega arith)))
-    ]
+    let bs = c.args.list.now.bytes.now in
+    let n = c.count.result in
+    let run = c.find_map.ensures.runs in
+    let counts = subst (λ (q : Range ℕ). ItemsCountUp run.0 q.start q.end) run.1 (range_runs run.0 run.0.seen) in
+    subst (λ i. FirstFault u bs i c.find_map.result) c.count.ensures
+    (first_found u bs n c.find_map.result (found_first _ _ run.0 n (FaultAt u bs) counts (λ a r f h. search rules) (λ i o h told. search rules) c.find_map.result run.2))
