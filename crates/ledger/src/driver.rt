@@ -19,43 +19,24 @@ pub fn play<M: Machine>(
     ensures called { let k = M.OrderedRow.kind folder.old.machine in Called k (M.Machine.rules folder.old.machine) (length memory.old) call.now result (state (standing k.width folder.old.count memory.old) strip.old witness.old) (state (standing k.width folder.new.count memory.new) strip.new witness.new) }
 {
     let len = call.memory.min(memory.len());
+    let memory = &mut memory[0..len];
     match call.deed {
-        Deed::Enter(line) => Answer::Changed(folder.enter(&mut memory[0..len], line)),
-        Deed::TakeIn(file) => Answer::Changed(folder.take_in(&mut memory[0..len], file)),
-        Deed::Strike(number) => Answer::Changed(folder.strike(&mut memory[0..len], number)),
+        Deed::Enter(line) => Answer::Changed(folder.enter(memory, line)),
+        Deed::TakeIn(file) => Answer::Changed(folder.take_in(memory, file)),
+        Deed::Strike(number) => Answer::Changed(folder.strike(memory, number)),
         Deed::Grow => {
             let strip_len = call.strip.min(strip.len());
-            Answer::Grew(folder.grow(&mut memory[0..len], &mut strip[0..strip_len]))
+            Answer::Grew(folder.grow(memory, &mut strip[0..strip_len]))
         }
         Deed::Judge => {
             let strip_len = call.strip.min(strip.len());
             let witness_len = call.witness.min(witness.len());
             Answer::Ruled(folder.judge(
-                &memory[0..len],
+                memory,
                 &mut strip[0..strip_len],
                 &mut witness[0..witness_len],
             ))
         }
-    }
-}
-
-// Plays the first `count` calls, and leaves an answer to each.
-fn play_all<M: Machine>(
-    folder: &mut Folder<M>,
-    calls: &[Call],
-    count: usize,
-    memory: &mut [u8],
-    strip: &mut [u8],
-    witness: &mut [u8],
-    answers: &mut [Answer],
-)
-    requires calls_within { count ≤ length calls.now }
-    requires answers_within { count ≤ length answers.old }
-    ensures machine { folder.new.machine ≡ folder.old.machine }
-    ensures played { let k = M.OrderedRow.kind folder.old.machine in Played k (M.Machine.rules folder.old.machine) (length memory.old) (state (standing k.width folder.old.count memory.old) strip.old witness.old) (take count calls.now) (take count answers.new) (state (standing k.width folder.new.count memory.new) strip.new witness.new) }
-{
-    for i in 0..count {
-        answers[i] = play(folder, &calls[i], memory, strip, witness);
     }
 }
 
@@ -73,6 +54,9 @@ pub fn replay<M: Machine>(
 {
     let mut folder = Folder::open(machine);
     let count = calls.len().min(answers.len());
-    play_all(&mut folder, calls, count, memory, strip, witness, answers);
+    // By index: after a loop over `answers.iter_mut().zip(calls)` only the length of the answers is known to a proof.
+    for (i, call) in calls[..count].iter().enumerate() {
+        answers[i] = play(&mut folder, call, memory, strip, witness);
+    }
     folder
 }
