@@ -15,21 +15,13 @@ use Rattle.rows.specs.Listing.{RowOf}
 use Rattle.folder.specs.Answers.{Added}
 use Rattle.folder.specs.Taking.{LinesAdded}
 
--- lines for which there are places are few, and fit into memory
-module _ (w n more : ℕ) (m : List ℕ) (free : length (standing w n m) + more ≤ places w (length m)) where
-  pub few_rows : n + more ≤ 1024
-  few_rows = omega (arith, free, standing_length w n m)
-
-  pub rows_fit : (n + more) * w ≤ length m
-  rows_fit = places_fit (n + more) w (length m) (omega (arith, free, standing_length w n m))
-
 -- one row more ends where the next begins
 pub one_more : (n w : ℕ) → (n + 1) * w ≡ n * w + w
 one_more n w = add-mul n 1 w ∙ ap (λ i. n * w + i) (one-mul w)
 
--- and so does the one row more for which there is a place
+-- and where there is a place for it, it fits into memory
 pub row_fits : (w n : ℕ) (m : List ℕ) → length (standing w n m) + 1 ≤ places w (length m) → n * w + w ≤ length m
-row_fits w n m free = omega (arith, rows_fit w n 1 m free, one_more n w)
+row_fits w n m free = omega (arith, places_fit (n + 1) w (length m) (omega (arith, free, standing_length w n m)), one_more n w)
 
 -- a part that is lent, as the checker writes it
 pub part_long : (at w : ℕ) (m : List ℕ) → at + w ≤ length m → length (take (at + w - at) (drop at m)) ≡ w

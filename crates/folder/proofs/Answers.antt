@@ -1,6 +1,5 @@
 -- From the checks that a call makes, and the rows after it, to its answer case by case.
-use Rattle.std.proofs.Common.{◌≡◌, ℕ, ◌+◌, ◌*◌, ◌/◌, ◌<◌, ◌≤◌, List, ◌++◌, length, drop, Ok, Err, Result, sym, refl, ap, ◌∙◌, subst, inl, inr, arith}
-use Rattle.std.proofs.lemmas.Nat.{le-div}
+use Rattle.std.proofs.Common.{◌≡◌, ℕ, ◌+◌, ◌*◌, ◌<◌, ◌≤◌, List, ◌++◌, length, drop, Ok, Err, Result, sym, refl, ap, ◌∙◌, subst, inl, inr, arith}
 use Rattle.std.proofs.lemmas.List.{length-append}
 use Rattle.std.proofs.lemmas.List.Elements.{length_all_zip}
 use Rattle.files.specs.Bytes.{two}
@@ -17,10 +16,6 @@ use Rattle.judge.specs.declared.verdict.Verdict.{Verdict}
 use Rattle.folder.specs.Answers.{JudgeAnswer, TakeInAnswer}
 use Rattle.folder.specs.Calls.{KeptBehind, Ruled, TakenIn, take_in_checks}
 use Rattle.folder.proofs.Adding.{added_each}
-
--- rows that fit into memory have places
-pub rows_placed : (w n memory : ℕ) → n ≤ 1024 → 0 < w → n * w ≤ memory → n ≤ places w memory
-rows_placed w n memory few some held = let q : n ≤ memory / w = le-div n memory w some held in omega arith
 
 -- what holds of the number of rows holds of the count
 by_count : (w n : ℕ) (m : List ℕ) (P : ℕ → Type 0) → P (length (standing w n m)) → P n

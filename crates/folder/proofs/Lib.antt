@@ -1,5 +1,6 @@
 pub mod Adding
 pub mod Answers
+pub mod Counts
 pub mod Grown
 pub mod Retaken
 pub mod Searching

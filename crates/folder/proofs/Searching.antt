@@ -2,7 +2,7 @@
 use Rattle.std.proofs.Common.{◌≡◌, ℕ, ◌+◌, ◌<◌, IfSome, IsSomeAnd, MatchOption, Some, None, Option, ap, ◌∙◌, subst, arith}
 use denote.Param.Members.{Mut, Called}
 use Rattle.std.specs.Bool.{IsTrue}
-use Rattle.std.specs.Iterator.Runs.{AllItemsBelow, AllItemsGive, CallKeepsClosure, IsFirstToGive, ItemsCountUp, Run}
+use Rattle.std.specs.Iterator.Runs.{AllItemsGive, CallKeepsClosure, IsFirstToGive, ItemsCountUp, Run}
 use Rattle.std.specs.Option.{option_map}
 
 -- what holds of an item that is known

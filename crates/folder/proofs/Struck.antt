@@ -1,10 +1,10 @@
 -- A row that goes.
-use Rattle.std.proofs.Common.{◌≡◌, ℕ, suc, ◌+◌, ◌-◌, ◌*◌, ◌<◌, ◌≤◌, List, [], ◌∷◌, ◌++◌, length, get_or, take, drop, set, sym, ap, ◌∙◌, append_assoc, append-nil, add-mul, one-mul, arith}
+use Rattle.std.proofs.Common.{◌≡◌, ℕ, suc, ◌+◌, ◌*◌, ◌≤◌, List, [], ◌∷◌, ◌++◌, length, take, drop, sym, ap, ◌∙◌, append_assoc, append-nil, add-mul, one-mul, arith}
 use borrow.Rule.Slice.PartMut.{put_mid}
 use lib.Seq.{paste}
 use Rattle.std.specs.List.{remove}
-use Rattle.std.proofs.lemmas.List.Edits.{paste_more, take-paste, drop-paste}
-use Rattle.std.proofs.lemmas.List.{drop-drop, length-take-le, length-drop, take-append-drop, get_or-drop, take_at, drop_at, length-append, length_push}
+use Rattle.std.proofs.lemmas.List.Edits.{take-paste, drop-paste}
+use Rattle.std.proofs.lemmas.List.{drop-drop, length-take-le, length-drop, take-append-drop, take_at, drop_at, length-append, length_push}
 use Rattle.rows.specs.Standing.{standing, zeros}
 use Rattle.rows.proofs.Rows.{standing_append, standing_front, standing_length, standing_one}
 use Rattle.folder.proofs.Adding.{one_more}

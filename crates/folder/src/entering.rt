@@ -9,6 +9,7 @@ use rows::FolderFault;
 
 impl<M: Machine> Folder<M> {
     // Adds a line at the end.
+    #[tactic(auto, using(crate::proofs::Counts::row_counts))]
     pub fn enter(&mut self, memory: &mut [u8], line: &[u8]) -> Result<(), FolderFault>
         ensures machine { self.new.machine ≡ self.old.machine }
         ensures rows { let k = M.OrderedRow.kind self.old.machine in Entered k (M.Machine.rules self.old.machine) (length memory.old) line.now (standing k.width self.old.count memory.old) result (standing k.width self.new.count memory.new) }

@@ -38,7 +38,7 @@ impl<M> Folder<M> {
 
 impl<M: Machine> Folder<M> {
     // The bytes that the standing rows take, which memory has to hold.
-    #[tactic(auto, using(rows::proofs::Rows::standing_length))]
+    #[tactic(auto, using(crate::proofs::Counts::row_counts))]
     pub(crate) fn standing_bytes(&self, memory: &[u8]) -> Result<usize, FolderFault>
         ensures answer { let w = (M.OrderedRow.kind self.now.machine).width in Answered (holds_rows w (length (standing w self.now.count memory.now)) (length memory.now)) (λ bytes. (bytes ≡ self.now.count * w) × (bytes ≤ 61440)) result }
         ensures placed { let w = (M.OrderedRow.kind self.now.machine).width in (self.now.count * w ≤ length memory.now → self.now.count ≤ places w (length memory.now)) }
@@ -51,7 +51,7 @@ impl<M: Machine> Folder<M> {
     }
 
     // The standing rows, which memory has to hold.
-    #[tactic(auto, using(rows::proofs::Rows::standing_length))]
+    #[tactic(auto, using(crate::proofs::Counts::row_counts))]
     pub(crate) fn lines<'a>(&self, memory: &'a [u8]) -> Result<Lines<'a>, FolderFault>
         ensures { let w = (M.OrderedRow.kind self.now.machine).width in let ls = standing w self.now.count memory.now in Answered (holds_rows w (length ls) (length memory.now)) (λ lines. (rows_of lines ≡ ls) × (length lines.bytes.now ≡ length memory.now)) result }
     {
@@ -64,7 +64,7 @@ impl<M: Machine> Folder<M> {
     }
 
     // Refuses where memory has no places for so many lines more.
-    #[tactic(auto, using(rows::proofs::Rows::standing_length))]
+    #[tactic(auto, using(crate::proofs::Counts::row_counts))]
     pub(crate) fn check_room(&self, memory: &[u8], more: usize) -> Result<(), FolderFault>
         requires { more ≤ 1024 }
         ensures { let w = (M.OrderedRow.kind self.now.machine).width in Answered (has_room w (length memory.now) (length (standing w self.now.count memory.now)) more) (λ _. Unit {0}) result }

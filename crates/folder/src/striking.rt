@@ -9,6 +9,7 @@ use rows::FolderFault;
 
 impl<M: Machine> Folder<M> {
     // Takes a line out: later rows move one place forward, and the bytes of the last one become zero.
+    #[tactic(auto, using(crate::proofs::Counts::row_counts))]
     pub fn strike(&mut self, memory: &mut [u8], number: usize) -> Result<(), FolderFault>
         ensures machine { self.new.machine ≡ self.old.machine }
         ensures rows { let w = (M.OrderedRow.kind self.old.machine).width in Struck w (length memory.old) number (standing w self.old.count memory.old) result (standing w self.new.count memory.new) }

@@ -36,6 +36,7 @@ fn first_fault<M: Machine>(machine: &M, list: &ListReader) -> Option<ListFault>
 }
 
 // Writes the rows of the lines one after another, behind those that stand.
+#[tactic(auto, using(crate::proofs::Counts::row_counts))]
 fn write_rows<M: Machine>(machine: &M, list: &ListReader, memory: &mut [u8], standing: usize)
     requires right { dir_fault list.now.bytes.now ≡ None }
     requires count { list.now.count ≡ two list.now.bytes.now 0 }
@@ -45,6 +46,7 @@ fn write_rows<M: Machine>(machine: &M, list: &ListReader, memory: &mut [u8], sta
     ensures { LinesAdded (M.OrderedRow.kind machine.now) (M.Machine.rules machine.now) list.now.bytes.now standing list.now.count memory.old memory.new }
 {
     let width = machine.row_len();
+    // The reader hands a line out by its number, and the number says where its row goes.
     for i in 0..list.count() {
         if let Some(line) = list.line(i) {
             let at = (standing + i) * width;
@@ -56,6 +58,7 @@ fn write_rows<M: Machine>(machine: &M, list: &ListReader, memory: &mut [u8], sta
 impl<M: Machine> Folder<M> {
     // Adds the lines of a list file in order, all or none. A file taken into an empty folder is the one
     // that is written from its rows.
+    #[tactic(auto, using(crate::proofs::Counts::row_counts))]
     pub fn take_in(&mut self, memory: &mut [u8], file: &[u8]) -> Result<(), FolderFault>
         ensures machine { self.new.machine ≡ self.old.machine }
         ensures answer { TakeInAnswer (M.OrderedRow.kind self.old.machine) (M.Machine.rules self.old.machine) self.old.count self.new.count memory.old memory.new file.now result }

@@ -18,6 +18,7 @@ pub fn play<M: Machine>(
     ensures machine { folder.new.machine ≡ folder.old.machine }
     ensures called { let k = M.OrderedRow.kind folder.old.machine in Called k (M.Machine.rules folder.old.machine) (length memory.old) call.now result (state (standing k.width folder.old.count memory.old) strip.old witness.old) (state (standing k.width folder.new.count memory.new) strip.new witness.new) }
 {
+    // Each part is cut here: of a helper that hands out a part of a slice it is not proved what the slice ends as.
     let len = call.memory.min(memory.len());
     let memory = &mut memory[0..len];
     match call.deed {

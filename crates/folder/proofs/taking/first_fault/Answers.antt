@@ -1,4 +1,4 @@
-use Rattle.std.proofs.Common.{ℕ, subst, rules, arith}
+use Rattle.std.proofs.Common.{ℕ, subst, rules}
 use Rattle.std.specs.Iterator.Runs.{ItemsCountUp}
 use Rattle.std.specs.declared.ops.Range.{Range}
 use Rattle.std.proofs.iter.runs.Sources.{range_runs}

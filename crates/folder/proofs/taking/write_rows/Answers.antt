@@ -8,15 +8,6 @@ use Rattle.rows.proofs.Rows.{row_end}
 use Rattle.folder.proofs.taking.write_rows.Goals as goal
 use Rattle.folder.proofs.taking.write_rows.Goals.{in-Some, in_default}
 
-pub slice_bounds-read_line-end : goal.slice_bounds-read_line-end
-slice_bounds-read_line-end g c =
-    let v = c.row_len-width.result in
-    let n = c.args.standing in
-    let all = n + c.args.list.now.count in
-    let e = row_end (n + c.loop-i.i) all v (omega arith) in
-    let room = subst (λ q. all * q ≤ length c.args.memory.now) (sym c.row_len-width.ensures.value) c.requires.room in
-    omega (arith, e, room)
-
 pub loop-i-init : goal.loop-i-init
 loop-i-init g c =
     let m = c.args.machine.now in

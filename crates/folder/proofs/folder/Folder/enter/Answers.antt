@@ -1,15 +1,6 @@
 use Rattle.std.proofs.Common.{◌≡◌, ◌+◌, ◌-◌, ◌≤◌, length, take, drop, refl, ◌∙◌, arith}
-use Rattle.folder.proofs.Adding.{few_rows, part_long, read_done, row_fits, row_kept, row_stands}
+use Rattle.folder.proofs.Adding.{part_long, read_done, row_fits, row_kept, row_stands}
 use Rattle.folder.proofs.folder.Folder.enter.Goals as goal
-
-pub slice_bounds-read_line-end : goal.slice_bounds-read_line-end
-slice_bounds-read_line-end g c =
-    let w = (g.M.OrderedRow.kind c.args.self.now.machine).width in
-    let fits = row_fits w c.args.self.now.count c.args.memory.now c.in_ok-check_room.ensures.0 in
-    omega (arith, fits, c.row_len-width.ensures.value, c.in_ok-end.ensures.answer.1.0)
-
-pub invariant_of-self : goal.invariant_of-self
-invariant_of-self g c = record { few = few_rows (g.M.OrderedRow.kind c.args.self.now.machine).width c.args.self.now.count 1 c.args.memory.now c.in_ok-check_room.ensures.0 }
 
 pub returns : goal.returns
 returns g c =

@@ -1,4 +1,4 @@
-use Rattle.std.proofs.Common.{◌≡◌, suc, ◌+◌, ◌-◌, ◌*◌, ◌≤◌, ◌++◌, length, drop, sym, refl, ap, ◌∙◌, subst, inr, arith}
+use Rattle.std.proofs.Common.{◌≡◌, suc, ◌+◌, ◌-◌, ◌*◌, ◌≤◌, ◌++◌, length, drop, sym, refl, ap, ◌∙◌, subst, arith}
 use borrow.Rule.Slice.PartMut.{put_mid}
 use Rattle.std.specs.List.{remove}
 use Rattle.std.proofs.lemmas.List.{length-drop, length-take-le}
@@ -6,51 +6,6 @@ use Rattle.rows.specs.Standing.{standing, zeros}
 use Rattle.rows.proofs.Rows.{row_end, standing_length}
 use Rattle.folder.proofs.Struck.{rows_around, struck_behind, struck_rows}
 use Rattle.folder.proofs.folder.Folder.strike.Goals as goal
-
-pub returns-then-number-self-clause-rows : goal.returns-then-number-self-clause-rows
-returns-then-number-self-clause-rows g c =
-    let w = (g.M.OrderedRow.kind c.args.self.now.machine).width in
-    (inr (c.in_ok-end.ensures.answer.0, (omega (arith, standing_length w c.args.self.now.count c.args.memory.now), refl)), refl)
-
-pub copy_within-requires-clause-in_bounds : goal.copy_within-requires-clause-in_bounds
-copy_within-requires-clause-in_bounds g c =
-    let w = (g.M.OrderedRow.kind c.args.self.now.machine).width in
-    let n = c.args.self.now.count in
-    let m = c.args.memory.now in
-    let i = c.args.number in
-    let v = c.row_len-width.result in
-    let held = c.in_ok-end.ensures.answer in
-    let fits : n * w ≤ length m = subst (λ q. q * w ≤ length m) (standing_length w n m) held.0 in
-    let at : c.in_ok-end.end ≡ n * v = held.1.0 ∙ ap (λ q. n * q) (sym c.row_len-width.ensures.value) in
-    let e : i * v + v ≤ n * v = row_end i n v (omega arith) in
-    omega (arith, fits, held.1.0)
-
-pub copy_within-requires-clause-dest_in_bounds : goal.copy_within-requires-clause-dest_in_bounds
-copy_within-requires-clause-dest_in_bounds g c =
-    let w = (g.M.OrderedRow.kind c.args.self.now.machine).width in
-    let n = c.args.self.now.count in
-    let m = c.args.memory.now in
-    let i = c.args.number in
-    let v = c.row_len-width.result in
-    let held = c.in_ok-end.ensures.answer in
-    let fits : n * w ≤ length m = subst (λ q. q * w ≤ length m) (standing_length w n m) held.0 in
-    let at : c.in_ok-end.end ≡ n * v = held.1.0 ∙ ap (λ q. n * q) (sym c.row_len-width.ensures.value) in
-    let e : i * v + v ≤ n * v = row_end i n v (omega arith) in
-    let room : i * v + (c.in_ok-end.end - (i * v + v)) ≤ length m = omega (arith, e, at, fits, held.1.0) in
-    room
-
-pub slice_bounds-fill-end : goal.slice_bounds-fill-end
-slice_bounds-fill-end g c =
-    let w = (g.M.OrderedRow.kind c.args.self.now.machine).width in
-    let n = c.args.self.now.count in
-    let m = c.args.memory.now in
-    let i = c.args.number in
-    let v = c.row_len-width.result in
-    let held = c.in_ok-end.ensures.answer in
-    let fits : n * w ≤ length m = subst (λ q. q * w ≤ length m) (standing_length w n m) held.0 in
-    let at : c.in_ok-end.end ≡ n * v = held.1.0 ∙ ap (λ q. n * q) (sym c.row_len-width.ensures.value) in
-    let e : i * v + v ≤ n * v = row_end i n v (omega arith) in
-    omega (arith, e, at, fits, held.1.0, c.copy_within.ensures.len)
 
 pub returns : goal.returns
 returns g c =

@@ -1,4 +1,4 @@
-use Rattle.std.proofs.Common.{◌≡◌, ◌+◌, ◌*◌, ◌≤◌, ◌++◌, length, drop, Some, None, Ok, refl, ap, ◌∙◌, inl, inr, sym, subst, arith}
+use Rattle.std.proofs.Common.{◌≡◌, ◌+◌, ◌*◌, ◌≤◌, ◌++◌, length, drop, Some, None, Ok, refl, ap, ◌∙◌, inl, inr, sym, subst}
 use Rattle.std.proofs.lemmas.Result.{err_from_is_err_and}
 use Rattle.files.specs.Bytes.{two}
 use Rattle.rows.specs.Standing.{standing}
@@ -6,7 +6,6 @@ use Rattle.rows.specs.Checks.{has_room, places}
 use Rattle.rows.specs.declared.fault.FolderFault.TheVariants.{List as Listed}
 use Rattle.folder.specs.Calls.{TakenIn}
 use Rattle.folder.specs.Taking.{FirstFault, LinesAdded}
-use Rattle.folder.proofs.Adding.{few_rows, rows_fit}
 use Rattle.folder.proofs.Answers.{take_in_done, take_in_refused}
 use Rattle.folder.proofs.Taken.{directory_fails, file_rewritten, lines_fail, of_file}
 use Rattle.folder.proofs.folder.Folder.take_in.Goals as goal
@@ -67,33 +66,6 @@ returns-in_err-check_room g c =
     let exit = c.from_residual-in_err-check_room in
     let p = err_from_is_err_and exit.result exit.ensures.1 in
     rw (p.1, p.2) (record { machine = refl; answer = take_in_refused k u n m file stand.placed e refused; rows = (refused, refl); behind = refl; again = tt })
-
-pub write_rows-requires-clause-few : goal.write_rows-requires-clause-few
-write_rows-requires-clause-few g c =
-    let machine = c.args.self.now.machine in
-    let k = g.M.OrderedRow.kind machine in
-    let u = g.M.Machine.rules machine in
-    let n = c.args.self.now.count in
-    let m = c.args.memory.now in
-    few_rows k.width n c.in_ok-list.list.count m (subst (λ i. length (standing k.width n m) + i ≤ places k.width (length m)) c.count.ensures c.in_ok-check_room.ensures.0)
-
-pub write_rows-requires-clause-room : goal.write_rows-requires-clause-room
-write_rows-requires-clause-room g c =
-    let machine = c.args.self.now.machine in
-    let k = g.M.OrderedRow.kind machine in
-    let u = g.M.Machine.rules machine in
-    let n = c.args.self.now.count in
-    let m = c.args.memory.now in
-    rows_fit k.width n c.in_ok-list.list.count m (subst (λ i. length (standing k.width n m) + i ≤ places k.width (length m)) c.count.ensures c.in_ok-check_room.ensures.0)
-
-pub invariant_of-self : goal.invariant_of-self
-invariant_of-self g c =
-    let machine = c.args.self.now.machine in
-    let k = g.M.OrderedRow.kind machine in
-    let u = g.M.Machine.rules machine in
-    let n = c.args.self.now.count in
-    let m = c.args.memory.now in
-    record { few = few_rows k.width n c.count-2.result m (subst (λ i. length (standing k.width n m) + i ≤ places k.width (length m)) (c.count.ensures ∙ sym c.count-2.ensures) c.in_ok-check_room.ensures.0) }
 
 pub returns : goal.returns
 returns g c =
