@@ -1,7 +1,7 @@
 // A queue over lent places: the first `count` of them hold its messages, oldest first.
-ghost use Rattle.std.specs.Prelude.{◌≡◌, ◌+◌, ◌-◌, ◌<◌, ◌≤◌, List, [], ◌∷◌, ◌++◌, map, length, take, drop, if◌then◌else◌, nat_lt, slice_set};
+ghost use Rattle.std.specs.Prelude.{◌≡◌, ◌+◌, ◌-◌, ◌≤◌, Ok, Err, is_ok, List, [], ◌∷◌, ◌++◌, map, length, take, drop, if◌then◌else◌, nat_lt, slice_set};
 ghost use Rattle.machines.specs.Message.{newest};
-ghost use Rattle.queue.specs.Fifo.{front, popped};
+ghost use Rattle.queue.specs.Fifo.{front, advanced, popped};
 
 use crate::message::Message;
 
@@ -12,28 +12,25 @@ pub struct Queue<'a, M: Message + Copy> {
 }
 
 // Moves each element one place forward, and puts z into the last place.
-fn shift<M: Copy>(xs: &mut [M], z: M)
-    requires { 0 < length xs.old }
-    ensures { xs.new ≡ drop 1 xs.old ++ (z ∷ []) }
+fn advance<M: Copy>(xs: &mut [M], z: M)
+    ensures { xs.new ≡ advanced z xs.old }
 {
-    let last = xs.len() - 1;
-    for i in 0..last {
-        xs[i] = xs[i + 1];
+    if !xs.is_empty() {
+        xs.rotate_left(1);
+        let last = xs.len() - 1;
+        xs[last] = z;
     }
-    xs[last] = z;
 }
 
 // The value of the newest own message of a variable, oldest first.
 fn newest_in<M: Message + Copy>(queued: &[M], variable: u8) -> Option<u8>
     ensures { result ≡ newest variable (map M.Message.kind.means queued.now) }
 {
-    let mut found = None;
-    for m in queued {
-        if m.is_own() && m.variable() == variable {
-            found = Some(m.value());
-        }
-    }
-    found
+    queued
+        .iter()
+        .rev()
+        .find(|m| m.is_own() && m.variable() == variable)
+        .map(|m| m.value())
 }
 
 impl<'a, M: Message + Copy> Queue<'a, M> {
@@ -45,21 +42,28 @@ impl<'a, M: Message + Copy> Queue<'a, M> {
         self.count.min(self.places.len())
     }
 
-    // Adds a message as newest; false, with nothing done, where no place is free.
-    pub fn push(&mut self, m: M) -> bool
-        ensures answer { result ≡ nat_lt self.old.count (length self.old.places.now) }
-        ensures count { self.new.count ≡ (if result then self.old.count + 1 else self.old.count) }
-        ensures places { self.new.places.now ≡ (if result then slice_set self.old.places.now self.old.count m else self.old.places.now) }
-        ensures queued { take self.new.count self.new.places.now ≡ take self.old.count self.old.places.now ++ (if result then m ∷ [] else []) }
+    // The messages, oldest first.
+    fn messages(&self) -> &[M]
+        ensures { result.now ≡ take self.now.count self.now.places.now }
+    {
+        &self.places[..self.len()]
+    }
+
+    // Adds a message as newest; where no place is free, hands it back with nothing done.
+    pub fn push(&mut self, m: M) -> Result<(), M>
+        ensures answer { result ≡ (if nat_lt self.old.count (length self.old.places.now) then Ok tt else Err m) }
+        ensures count { self.new.count ≡ (if is_ok result then self.old.count + 1 else self.old.count) }
+        ensures places { self.new.places.now ≡ (if is_ok result then slice_set self.old.places.now self.old.count m else self.old.places.now) }
+        ensures queued { take self.new.count self.new.places.now ≡ take self.old.count self.old.places.now ++ (if is_ok result then m ∷ [] else []) }
         ensures lender { self.new.places.ghost_name ≡ self.old.places.ghost_name }
     {
         let at = self.count;
         if at >= self.places.len() {
-            return false;
+            return Err(m);
         }
         self.places[at] = m;
         self.count = at + 1;
-        true
+        Ok(())
     }
 
     // Drops the oldest message; the others move up, and the freed place becomes zero.
@@ -70,33 +74,24 @@ impl<'a, M: Message + Copy> Queue<'a, M> {
         ensures queued { take self.new.count self.new.places.now ≡ drop 1 (take self.old.count self.old.places.now) }
         ensures lender { self.new.places.ghost_name ≡ self.old.places.ghost_name }
     {
+        let oldest = self.oldest();
         let n = self.len();
-        if n == 0 {
-            self.count = 0;
-            return None;
-        }
-        let first: M = self.places[0];
-        shift(&mut self.places[0..n], M::zero());
-        self.count = n - 1;
-        Some(first)
+        advance(&mut self.places[0..n], M::zero());
+        self.count = n.saturating_sub(1);
+        oldest
     }
 
     // The oldest message.
     pub fn oldest(&self) -> Option<M>
         ensures { result ≡ front (take self.now.count self.now.places.now) }
     {
-        let n = self.len();
-        if n == 0 {
-            return None;
-        }
-        Some(self.places[0])
+        self.messages().first().copied()
     }
 
     // The value of the newest own message of a variable.
     pub fn newest_own(&self, variable: u8) -> Option<u8>
         ensures { result ≡ newest variable (map M.Message.kind.means (take self.now.count self.now.places.now)) }
     {
-        let n = self.len();
-        newest_in(&self.places[0..n], variable)
+        newest_in(self.messages(), variable)
     }
 }
