@@ -11,6 +11,7 @@ use Rattle.rules.specs.declared.act.Act.TheVariants.{Operate, Propagate, Delete,
 use Rattle.rules.specs.declared.effect.Change.TheVariants.{Join, Leave}
 use Rattle.rules.specs.declared.effect.Effect.{Effect}
 use Rattle.rules.specs.Memory.{still, exchanged, is_empty}
+use Rattle.rules.specs.Operations.{Manner}
 use Rattle.rules.specs.Rulebook.{Rulebook}
 
 -- a seen message of the variable, with the value
@@ -32,9 +33,14 @@ load_reads q x v = yields (newest x q) x v q
 abbrev pub load_operation : Operation → List ℕ → Queue → Option (Effect LoadMessage)
 load_operation Nop m q = Some still
 load_operation (Read x v) m q = cond (load_reads q x v) (Some still) None
-load_operation (Write x v) m q = Some (record { write = Some (x, v); change = Join (record { own = true; variable = x; value = v }) })
+load_operation (Write x v) m q = Some (record { write = Some (record { variable = x; value = v }); change = Join (record { own = true; variable = x; value = v }) })
 load_operation Fence m q = cond (is_empty q) (Some still) None
 load_operation (Exchange x v w) m q = cond (is_empty q) (exchanged m x v w) None
+
+-- how operations go, where a write reaches memory and joins the queue
+abbrev pub load_manner : Manner LoadMessage
+load_manner =
+    record { reads = λ m q x v. load_reads q x v; writes = λ x v. record { write = Some (record { variable = x; value = v }); change = Join (record { own = true; variable = x; value = v }) }; is_clear = is_empty }
 
 -- the oldest message goes
 abbrev pub deleted : Queue → Option (Effect LoadMessage)

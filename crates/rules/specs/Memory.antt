@@ -10,7 +10,7 @@ still = record { write = None; change = Keep }
 
 -- memory has the first value, and gets the second
 abbrev pub exchanged : {M : Type 0} → List ℕ → ℕ → ℕ → ℕ → Option (Effect M)
-exchanged m x v w = cond (slice_index m x == v) (Some (record { write = Some (x, w); change = Keep })) None
+exchanged m x v w = cond (slice_index m x == v) (Some (record { write = Some (record { variable = x; value = w }); change = Keep })) None
 
 abbrev pub is_empty : Queue → Bool
 is_empty [] = true

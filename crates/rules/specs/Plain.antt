@@ -1,5 +1,5 @@
 -- What acts do on the plain machine, which has no queues.
-use Rattle.std.specs.Prelude.{ℕ, false, cond, List, Some, None, Option, ◌==◌, slice_index}
+use Rattle.std.specs.Prelude.{ℕ, true, false, cond, List, Some, None, Option, ◌==◌, slice_index}
 use Rattle.files.specs.declared.transition.Operation.{Operation}
 use Rattle.files.specs.declared.transition.Operation.TheVariants.{Nop, Read, Write, Fence, Exchange}
 use Rattle.machines.specs.Message.{Queue}
@@ -11,14 +11,20 @@ use Rattle.rules.specs.declared.act.Act.TheVariants.{Operate, Propagate, Delete,
 use Rattle.rules.specs.declared.effect.Change.TheVariants.{Keep}
 use Rattle.rules.specs.declared.effect.Effect.{Effect}
 use Rattle.rules.specs.Memory.{still, exchanged}
+use Rattle.rules.specs.Operations.{Manner}
 use Rattle.rules.specs.Rulebook.{Rulebook}
 
 abbrev pub plain_operation : Operation → List ℕ → Option (Effect LoadMessage)
 plain_operation Nop m = Some still
 plain_operation (Read x v) m = cond (slice_index m x == v) (Some still) None
-plain_operation (Write x v) m = Some (record { write = Some (x, v); change = Keep })
+plain_operation (Write x v) m = Some (record { write = Some (record { variable = x; value = v }); change = Keep })
 plain_operation Fence m = Some still
 plain_operation (Exchange x v w) m = exchanged m x v w
+
+-- how operations go, where no message ever waits
+abbrev pub plain_manner : Manner LoadMessage
+plain_manner =
+    record { reads = λ m q x v. slice_index m x == v; writes = λ x v. record { write = Some (record { variable = x; value = v }); change = Keep }; is_clear = λ q. true }
 
 abbrev pub plain_effect : Act → List ℕ → Queue → Option (Effect LoadMessage)
 plain_effect (Operate o) m q = plain_operation o m

@@ -11,6 +11,7 @@ use Rattle.rules.specs.declared.act.Act.TheVariants.{Operate, Propagate, Delete,
 use Rattle.rules.specs.declared.effect.Change.{Change}
 use Rattle.rules.specs.declared.effect.Change.TheVariants.{Keep, Join, Leave}
 use Rattle.rules.specs.declared.effect.Effect.{Effect}
+use Rattle.rules.specs.declared.effect.Write.{Write}
 
 -- the most messages that a process may have pending on a machine with queues
 abbrev pub most : ℕ
@@ -27,9 +28,9 @@ pub record Rulebook (M : Type 0) : Type 1 where
 abbrev pub room : {M : Type 0} → Rulebook M → ℕ
 room u = cond u.buffered most 0
 
-abbrev pub written : Option (ℕ × ℕ) → List ℕ → List ℕ
+abbrev pub written : Option Write → List ℕ → List ℕ
 written None m = m
-written (Some w) m = slice_set m w.0 w.1
+written (Some w) m = slice_set m w.variable w.value
 
 abbrev pub changed : {M : Type 0} → Kind M → Change M → Queue → Queue
 changed k Keep q = q

@@ -12,6 +12,7 @@ use Rattle.rules.specs.declared.act.Act.TheVariants.{Operate, Propagate, Delete,
 use Rattle.rules.specs.declared.effect.Change.TheVariants.{Join, Leave}
 use Rattle.rules.specs.declared.effect.Effect.{Effect}
 use Rattle.rules.specs.Memory.{still, exchanged, is_empty}
+use Rattle.rules.specs.Operations.{Manner}
 use Rattle.rules.specs.Rulebook.{Rulebook}
 
 -- a read yields the newest queued store of its variable, else the value in memory
@@ -25,10 +26,15 @@ store_operation (Write x v) m q = Some (record { write = None; change = Join (re
 store_operation Fence m q = cond (is_empty q) (Some still) None
 store_operation (Exchange x v w) m q = cond (is_empty q) (exchanged m x v w) None
 
+-- how operations go, where a write waits in the queue
+abbrev pub store_manner : Manner StoreMessage
+store_manner =
+    record { reads = store_reads; writes = λ x v. record { write = None; change = Join (record { variable = x; value = v }) }; is_clear = is_empty }
+
 -- the oldest store goes to memory; a seen message would be no store
 abbrev pub carried : Queue → Option (Effect StoreMessage)
 carried [] = None
-carried (m ∷ q) = cond m.own (Some (record { write = Some (m.variable, m.value); change = Leave })) None
+carried (m ∷ q) = cond m.own (Some (record { write = Some (record { variable = m.variable; value = m.value }); change = Leave })) None
 
 abbrev pub store_effect : Act → List ℕ → Queue → Option (Effect StoreMessage)
 store_effect (Operate o) m q = store_operation o m q

@@ -9,9 +9,15 @@ pub enum Change<M> {
     Leave,
 }
 
+// A value that goes into memory.
+#[derive(Clone, Copy, PartialEq, Eq, Debug)]
+pub struct Write {
+    pub variable: u8,
+    pub value: u8,
+}
+
 #[derive(Clone, Copy)]
 pub struct Effect<M> {
-    // the variable that is written, and its value
-    pub write: Option<(u8, u8)>,
+    pub write: Option<Write>,
     pub change: Change<M>,
 }

@@ -1,14 +1,15 @@
 // Load buffers: a write reaches memory at once, and what a process may still read waits in its queue.
-ghost use Rattle.std.specs.Prelude.{◌≡◌, map, take};
+ghost use Rattle.std.specs.Prelude.{◌≡◌};
 ghost use Rattle.queue.specs.Kinds.{load_means};
-ghost use Rattle.rules.specs.LoadBuffers.{load_book, load_reads, is_seen, load_operation};
+ghost use Rattle.rules.specs.LoadBuffers.{load_manner, load_book, is_seen};
 ghost use Rattle.rules.specs.Exactness.{load_exact};
 
 use crate::act::Act;
-use crate::effect::{Change, Effect};
-use crate::memory::{exchange, is_empty, still, value_of};
+use crate::effect::{Change, Effect, Write};
+use crate::memory::{is_empty, value_of};
+use crate::moves::Move;
+use crate::operate::{Operations, operate};
 use crate::rules::{MOST, Rules};
-use files::transition::Operation;
 use queue::{LoadMessage, Queue};
 
 #[derive(Clone, Copy)]
@@ -20,53 +21,34 @@ fn is_seen(message: LoadMessage, variable: u8, value: u8) -> bool
     !message.own && message.variable == variable && message.value == value
 }
 
-// Whether a read yields the value: of the newest own message of the variable, or, with none, if the oldest message is a
-// seen one of both.
-fn reads(queue: &Queue<LoadMessage>, variable: u8, value: u8) -> bool
-    ensures { result ≡ load_reads (map load_means (take queue.now.count queue.now.places.now)) variable value }
-{
-    if let Some(newest) = queue.newest_own(variable) {
-        return newest == value;
-    }
-    match queue.oldest() {
-        Some(message) => is_seen(message, variable, value),
-        None => false,
-    }
-}
+impl Operations for LoadBuffers {
+    type Record = LoadMessage;
 
-// What an operation does.
-fn operate(
-    operation: Operation,
-    memory: &[u8],
-    queue: &Queue<LoadMessage>,
-) -> Option<Effect<LoadMessage>>
-    ensures { result ≡ load_operation operation memory.now (map load_means (take queue.now.count queue.now.places.now)) }
-{
-    match operation {
-        Operation::Nop => Some(still()),
-        Operation::Read { variable, value } => {
-            if reads(queue, variable, value) {
-                Some(still())
-            } else {
-                None
-            }
+    ghost manner = { load_manner };
+
+    // The newest own message of the variable has the value, or, with none, the oldest message is a seen one of both.
+    fn reads(_memory: &[u8], queue: &Queue<LoadMessage>, variable: u8, value: u8) -> bool {
+        match queue.newest_own(variable) {
+            Some(newest) => newest == value,
+            None => queue
+                .oldest()
+                .is_some_and(|message| is_seen(message, variable, value)),
         }
-        Operation::Write { variable, value } => Some(Effect {
-            write: Some((variable, value)),
+    }
+
+    fn writes(variable: u8, value: u8) -> Effect<LoadMessage> {
+        Effect {
+            write: Some(Write { variable, value }),
             change: Change::Join(LoadMessage {
                 own: true,
                 variable,
                 value,
             }),
-        }),
-        Operation::Fence => { if is_empty(queue) { Some(still()) } else { None } }
-        Operation::Exchange { variable, old, new } => {
-            if is_empty(queue) {
-                exchange(memory, variable, old, new)
-            } else {
-                None
-            }
         }
+    }
+
+    fn is_clear(queue: &Queue<LoadMessage>) -> bool {
+        is_empty(queue)
     }
 }
 
@@ -82,12 +64,12 @@ impl Rules for LoadBuffers {
     }
 
     fn emptying(process: u8) -> usize {
-        80 + usize::from(process)
+        Move::Delete { process }.number()
     }
 
     fn effect(act: Act, memory: &[u8], queue: &Queue<LoadMessage>) -> Option<Effect<LoadMessage>> {
         match act {
-            Act::Operate(operation) => operate(operation, memory, queue),
+            Act::Operate(operation) => operate::<LoadBuffers>(operation, memory, queue),
             Act::Propagate(variable) => Some(Effect {
                 write: None,
                 change: Change::Join(LoadMessage {
@@ -96,15 +78,10 @@ impl Rules for LoadBuffers {
                     value: value_of(memory, variable),
                 }),
             }),
-            Act::Delete => {
-                if is_empty(queue) {
-                    return None;
-                }
-                Some(Effect {
-                    write: None,
-                    change: Change::Leave,
-                })
-            }
+            Act::Delete => (!is_empty(queue)).then_some(Effect {
+                write: None,
+                change: Change::Leave,
+            }),
             Act::Update => None,
         }
     }

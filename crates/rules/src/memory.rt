@@ -2,15 +2,14 @@
 ghost use Rattle.std.specs.Prelude.{◌≡◌, map, take, slice_index};
 ghost use Rattle.rules.specs.Memory.{still as no_effect, exchanged, is_empty};
 
-use crate::effect::{Change, Effect};
+use crate::effect::{Change, Effect, Write};
 use queue::{Message, Queue};
 
 // The value of a variable.
 pub(crate) fn value_of(memory: &[u8], variable: u8) -> u8
     ensures { result ≡ slice_index memory.now variable }
 {
-    let at = usize::from(variable);
-    if at < memory.len() { memory[at] } else { 0 }
+    memory.get(usize::from(variable)).copied().unwrap_or(0)
 }
 
 // Nothing but the state changes.
@@ -24,14 +23,14 @@ pub(crate) fn still<M>() -> Effect<M>
 }
 
 // An exchange, where memory has the first value.
-pub(crate) fn exchange<M>(memory: &[u8], variable: u8, old: u8, new: u8) -> Option<Effect<M>>
+pub(crate) fn exchange<M: Copy>(memory: &[u8], variable: u8, old: u8, new: u8) -> Option<Effect<M>>
     ensures { result ≡ exchanged memory.now variable old new }
 {
-    if value_of(memory, variable) != old {
-        return None;
-    }
-    Some(Effect {
-        write: Some((variable, new)),
+    (value_of(memory, variable) == old).then_some(Effect {
+        write: Some(Write {
+            variable,
+            value: new,
+        }),
         change: Change::Keep,
     })
 }

@@ -1,36 +1,37 @@
 // The plain machine: reads, writes and exchanges meet memory directly, and there are no queues.
-ghost use Rattle.std.specs.Prelude.{◌≡◌};
-ghost use Rattle.rules.specs.Plain.{plain_book, plain_operation};
+ghost use Rattle.rules.specs.Plain.{plain_manner, plain_book};
 ghost use Rattle.rules.specs.Exactness.{plain_exact};
 
 use crate::act::Act;
-use crate::effect::{Change, Effect};
-use crate::memory::{exchange, still, value_of};
+use crate::effect::{Change, Effect, Write};
+use crate::memory::value_of;
+use crate::moves::Move;
+use crate::operate::{Operations, operate};
 use crate::rules::Rules;
-use files::transition::Operation;
 use queue::{LoadMessage, Queue};
 
 #[derive(Clone, Copy)]
 pub struct Plain;
 
-// What an operation does.
-fn operate(operation: Operation, memory: &[u8]) -> Option<Effect<LoadMessage>>
-    ensures { result ≡ plain_operation operation memory.now }
-{
-    match operation {
-        Operation::Nop | Operation::Fence => Some(still()),
-        Operation::Read { variable, value } => {
-            if value_of(memory, variable) == value {
-                Some(still())
-            } else {
-                None
-            }
-        }
-        Operation::Write { variable, value } => Some(Effect {
-            write: Some((variable, value)),
+impl Operations for Plain {
+    type Record = LoadMessage;
+
+    ghost manner = { plain_manner };
+
+    fn reads(memory: &[u8], _queue: &Queue<LoadMessage>, variable: u8, value: u8) -> bool {
+        value_of(memory, variable) == value
+    }
+
+    fn writes(variable: u8, value: u8) -> Effect<LoadMessage> {
+        Effect {
+            write: Some(Write { variable, value }),
             change: Change::Keep,
-        }),
-        Operation::Exchange { variable, old, new } => exchange(memory, variable, old, new),
+        }
+    }
+
+    // no message ever waits
+    fn is_clear(_queue: &Queue<LoadMessage>) -> bool {
+        true
     }
 }
 
@@ -48,12 +49,12 @@ impl Rules for Plain {
 
     // never made: there is no message to take
     fn emptying(process: u8) -> usize {
-        80 + usize::from(process)
+        Move::Delete { process }.number()
     }
 
-    fn effect(act: Act, memory: &[u8], _queue: &Queue<LoadMessage>) -> Option<Effect<LoadMessage>> {
+    fn effect(act: Act, memory: &[u8], queue: &Queue<LoadMessage>) -> Option<Effect<LoadMessage>> {
         match act {
-            Act::Operate(operation) => operate(operation, memory),
+            Act::Operate(operation) => operate::<Plain>(operation, memory, queue),
             Act::Propagate(_) | Act::Delete | Act::Update => None,
         }
     }
