@@ -1,5 +1,5 @@
 -- What play does to the fields of a bench and to the records, as the definition of a move has it.
-use Rattle.std.proofs.Common.{◌≡◌, ℕ, zero, suc, ◌+◌, ◌-◌, ◌*◌, ◌<◌, ◌≤◌, List, [], ◌∷◌, ◌++◌, length, get_or, take, drop, set, Some, None, Ok, Err, Result, sym, refl, ap, ◌∙◌, mul-le-mul_left, mul-add, arith, lit≤}
+use Rattle.std.proofs.Common.{◌≡◌, ℕ, zero, suc, ◌+◌, ◌-◌, ◌*◌, ◌<◌, ◌≤◌, List, [], ◌∷◌, ◌++◌, length, get_or, take, drop, set, Some, None, Ok, Err, Result, MatchResult, IsErrAnd, sym, refl, ap, ◌∙◌, mul-le-mul_left, mul-add, arith, lit≤}
 use borrow.Rule.Slice.PartMut.{put_mid}
 use Rattle.std.proofs.lemmas.List.{take_at, drop-drop, take-append-drop, length-take}
 use Rattle.std.proofs.lemmas.Bool.{cond_both}
@@ -101,3 +101,12 @@ room_small u = cond_both u.buffered 8 0 (λ n. n ≤ 8) (λ e. lit≤ tt) (λ e.
 -- no part has more than eight places
 pub part_short : {M : Type 0} (u : Rulebook M) (n : ℕ) (xs : List M) → n ≡ room u → length (take n xs) ≤ 8
 part_short u n xs e = let r = room_small u in let l = length-take n xs in omega arith
+
+-- what `map_err` leaves, and what it changes
+pub kept_ok : {A E D : Type 0} (r : Result A E) (w : Result A D) (P : E → D → Type 0) (x : A) → MatchResult r (λ y. w ≡ Ok y) (λ e. IsErrAnd w (P e)) → w ≡ Ok x → r ≡ Ok x
+kept_ok (Ok y) w P x h e = let z = sym h ∙ e in cc
+kept_ok (Err y) w P x h e = absurd (rw e at h)
+
+pub changed_err : {A E D : Type 0} (f : E → D) (r : Result A E) (w : Result A D) (P : E → D → Type 0) (d : D) → MatchResult r (λ y. w ≡ Ok y) (λ e. IsErrAnd w (P e)) → ((e : E) (y : D) → P e y → y ≡ f e) → w ≡ Err d → (e : E) × (r ≡ Err e) × (d ≡ f e)
+changed_err f (Ok y) w P d h g e = let z = sym h ∙ e in cc
+changed_err f (Err y) w P d h g e = (y, refl, g y d (rw e at h))

@@ -6,6 +6,8 @@ use Rattle.files.specs.declared.transition.Transition.{Transition}
 use Rattle.rules.specs.declared.act.Act.{Act}
 use Rattle.rules.specs.declared.act.Act.TheVariants.{Operate, Propagate, Delete, Update}
 use Rattle.rules.specs.declared.act.Deed.{Deed}
+use Rattle.rules.specs.declared.moves.Move.{Move}
+use Rattle.rules.specs.declared.moves.Move.TheVariants.{Transition as TransitionMove, Propagate as PropagateMove, Delete as DeleteMove, Update as UpdateMove}
 
 -- a transition's operation, where its process is in the state before
 abbrev pub by_transition : List ℕ → Transition → Option Deed
@@ -29,3 +31,10 @@ deed_of s states n =
     (cond (nat_lt n 80) (cond (nat_lt ((n - 64) % 4) s.variables) (staying states ((n - 64) / 4) (Propagate ((n - 64) % 4))) None)
     (cond (nat_lt n 84) (staying states (n - 80) Delete)
     (cond (nat_lt n 88) (staying states (n - 84) Update) None)))
+
+-- the same, by the move
+abbrev pub by_move : Program → List ℕ → Move → Option Deed
+by_move s states (TransitionMove t) = by_found states (slice_get s.transitions t)
+by_move s states (PropagateMove p x) = cond (nat_lt x s.variables) (staying states p (Propagate x)) None
+by_move s states (DeleteMove p) = staying states p Delete
+by_move s states (UpdateMove p) = staying states p Update

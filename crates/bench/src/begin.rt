@@ -14,9 +14,9 @@ use rules::Rules;
 fn clear<M: Message + Copy>(places: &mut [M])
     ensures { places.new ≡ replicate (length places.old) M.Message.kind.zero }
 {
-    for i in 0..places.len() {
-        places[i] = M::zero();
-    }
+    // `fill` asks for a clone that cannot fail, which no bound gives a type parameter.
+    let zero = M::zero();
+    places.fill_with(|| zero);
 }
 
 impl<R: Rules> Bench<R> {

@@ -1,5 +1,7 @@
 // Whether the records that are lent can be played on.
-ghost use Rattle.std.specs.Prelude.{◌≡◌, ◌*◌, ◌<◌, ◌≤◌, length};
+ghost use Rattle.std.specs.Prelude.{◌≡◌, ◌*◌, ◌/◌, ◌%◌, ◌≤◌, length, nat_lt, slice_index};
+ghost use Rattle.std.specs.Result.{result_err};
+ghost use Rattle.rules.specs.Rulebook.{most};
 ghost use Rattle.files.specs.Program.{program, sizes_of, Program};
 ghost use Rattle.bench.specs.Play.{unready, wrong_at, fits, lowest};
 ghost use Rattle.bench.specs.Table.{needed, table_of, Sized};
@@ -18,40 +20,22 @@ fn message_fits<M: Message + Copy>(sizes: Sizes, message: M) -> bool
     message.variable() < sizes.variables && message.value() < sizes.values
 }
 
-// Whether a message is queued at this place that is not the system's.
-fn is_wrong<M: Message + Copy>(
-    sizes: Sizes,
-    lengths: &[usize],
-    messages: &[M],
-    place: usize,
-) -> bool
-    requires within { place < length messages.now }
-    requires lengths { place < 8 * length lengths.now }
-    ensures { (s : Program) → sizes ≡ sizes_of s → result ≡ wrong_at M.Message.kind s lengths.now messages.now place }
+// Whether a message is queued at this place.
+fn is_queued(lengths: &[usize], place: usize) -> bool
+    ensures { result ≡ nat_lt (place % most) (slice_index lengths.now (place / most)) }
 {
-    if place % MOST >= lengths[place / MOST] {
-        return false;
-    }
-    !message_fits(sizes, messages[place])
+    lengths
+        .get(place / MOST)
+        .is_some_and(|length| place % MOST < *length)
 }
 
-// The lowest such place among so many.
-fn first_wrong<M: Message + Copy>(
-    sizes: Sizes,
-    lengths: &[usize],
-    messages: &[M],
-    places: usize,
-) -> Option<usize>
-    requires within { places ≤ length messages.now }
-    requires lengths { places ≤ 8 * length lengths.now }
-    ensures { (s : Program) → sizes ≡ sizes_of s → result ≡ lowest (wrong_at M.Message.kind s lengths.now messages.now) places 0 }
+// The lowest place where a message is queued that is not the system's.
+fn first_wrong<M: Message + Copy>(sizes: Sizes, lengths: &[usize], messages: &[M]) -> Option<usize>
+    ensures { (s : Program) → sizes ≡ sizes_of s → result ≡ lowest (wrong_at M.Message.kind s lengths.now messages.now) (length messages.now) 0 }
 {
-    for i in 0..places {
-        if is_wrong(sizes, lengths, messages, i) {
-            return Some(i);
-        }
-    }
-    None
+    messages.iter().enumerate().position(|(place, message)| {
+        is_queued(lengths, place) && !message_fits(sizes, *message)
+    })
 }
 
 impl<R: Rules> Bench<R> {
@@ -63,17 +47,19 @@ impl<R: Rules> Bench<R> {
         places_at::<R>(usize::from(self.system.sizes().processes))
     }
 
-    // Why these records cannot be played on.
-    pub fn unready(&self, messages: &[R::Record]) -> Option<BenchFault>
+    // Whether these records can be played on, or why not.
+    pub fn ready(&self, messages: &[R::Record]) -> Result<(), BenchFault>
         ensures sized { Sized self.now }
-        ensures value { result ≡ unready R.Record.Message.kind R.Rules.book (program self.now.system) (table_of self.now messages.now) }
+        ensures value { result_err result ≡ unready R.Record.Message.kind R.Rules.book (program self.now.system) (table_of self.now messages.now) }
     {
         let look = self.look();
         let needed = self.needed();
         if messages.len() < needed {
-            return Some(BenchFault::Short(needed));
+            return Err(BenchFault::Short(needed));
         }
-        let place = first_wrong(self.system.sizes(), look.lengths, messages, needed)?;
-        Some(BenchFault::Wrong(place))
+        match first_wrong(self.system.sizes(), look.lengths, &messages[0..needed]) {
+            Some(place) => Err(BenchFault::Wrong(place)),
+            None => Ok(()),
+        }
     }
 }

@@ -20,9 +20,7 @@ impl<R: Rules> Bench<R> {
         ensures system { program self.new.system ≡ program self.old.system }
     {
         for _i in 0..times {
-            if let Err(fault) = self.play(messages, number) {
-                return Err(fault);
-            }
+            self.play(messages, number)?;
         }
         Ok(())
     }
@@ -33,9 +31,7 @@ impl<R: Rules> Bench<R> {
         ensures system { program self.new.system ≡ program self.old.system }
         ensures sized { Sized self.old }
     {
-        if let Some(fault) = self.unready(messages) {
-            return Err(fault);
-        }
+        self.ready(messages)?;
         let at = usize::from(process);
         if at >= usize::from(self.system.sizes().processes) {
             return Err(BenchFault::Impossible(88 + at));

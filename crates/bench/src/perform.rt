@@ -5,7 +5,7 @@ ghost use Rattle.rules.specs.Rulebook.{written};
 
 use crate::fault::BenchFault;
 use queue::Queue;
-use rules::{Act, Change, Rules};
+use rules::{Act, Change, Rules, Write};
 
 // Why an act is not done.
 #[derive(Clone, Copy)]
@@ -27,10 +27,10 @@ impl Hindrance {
 }
 
 // Writes a value where there is such a variable.
-fn write(memory: &mut [u8], cell: Option<(u8, u8)>)
-    ensures { memory.new ≡ written cell memory.old }
+fn write(memory: &mut [u8], write: Option<Write>)
+    ensures { memory.new ≡ written write memory.old }
 {
-    if let Some((variable, value)) = cell {
+    if let Some(Write { variable, value }) = write {
         let at = usize::from(variable);
         if at < memory.len() {
             memory[at] = value;
@@ -49,15 +49,11 @@ pub(crate) fn perform<R: Rules>(
     ensures short { count ≤ 8 → length places.old ≤ 8 → IfOk result (λ n. n ≤ 8) }
 {
     let mut queue = Queue { places, count };
-    let Some(effect) = R::effect(act, memory, &queue) else {
-        return Err(Hindrance::Impossible);
-    };
+    let effect = R::effect(act, memory, &queue).ok_or(Hindrance::Impossible)?;
     let after = match effect.change {
         Change::Keep => count,
         Change::Join(message) => {
-            if !queue.push(message) {
-                return Err(Hindrance::Full);
-            }
+            queue.push(message).map_err(|_| Hindrance::Full)?;
             count + 1
         }
         Change::Leave => {

@@ -39,30 +39,22 @@ impl<R: Rules> Bench<R> {
         ensures system { program self.new.system ≡ program self.old.system }
         ensures sized { Sized self.old }
     {
-        if let Some(fault) = self.unready(messages) {
-            return Err(fault);
-        }
-        let Some(deed) = self.deed(number) else {
-            return Err(BenchFault::Impossible(number));
-        };
+        self.ready(messages)?;
+        let deed = self.deed(number).ok_or(BenchFault::Impossible(number))?;
         let variables = usize::from(self.system.sizes().variables);
         let process = deed.process;
         let at = places_at::<R>(process);
         let end = at + R::room();
-        let done = perform::<R>(
+        let length = perform::<R>(
             &mut messages[at..end],
             self.lengths[process],
             &mut self.memory[0..variables],
             deed.act,
-        );
-        match done {
-            Ok(length) => {
-                self.lengths[process] = length;
-                self.states[process] = deed.state;
-                Ok(())
-            }
-            Err(hindrance) => Err(hindrance.fault(process, number)),
-        }
+        )
+        .map_err(|hindrance| hindrance.fault(process, number))?;
+        self.lengths[process] = length;
+        self.states[process] = deed.state;
+        Ok(())
     }
 
     // One move. It is made exactly where the machine has such a step with at most eight messages pending, and leads where the

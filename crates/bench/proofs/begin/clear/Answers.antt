@@ -1,15 +1,15 @@
-use Rattle.std.proofs.Common.{set, ap, ◌∙◌, arith}
-use Rattle.bench.proofs.Starting.{filled_more, filled_all}
+use Rattle.std.proofs.Common.{◌≡◌, List, [], ◌∷◌, length, replicate, refl, ap, ◌∙◌, subst, rules}
+use Rattle.std.specs.List.{FoldsTo}
 use Rattle.bench.proofs.begin.clear.Goals as goal
 
-pub loop-i-preserved : goal.loop-i-preserved
-loop-i-preserved g c =
-    let z = g.M.Message.kind.zero in
-    let d = c.args.places.now in
-    ap (λ x. set c.loop-i.places c.loop-i.i x) c.zero.ensures ∙ ap (λ l. set l c.loop-i.i z) c.loop-i.invariant ∙ filled_more c.loop-i.i z d (omega arith)
+filled : {P X : Type 0} (R : P → X → P → Type 0) (z : X) (p q : P) (xs : List X) → ((x : X) (j : P) → R p x j → (x ≡ z) × (j ≡ p)) → FoldsTo R p xs q → xs ≡ replicate (length xs) z
+filled R z p q [] f h = refl
+filled R z p q (x ∷ xs) f h =
+    let e = f x h.0 h.1 in
+    ap (λ y. y ∷ xs) e.0 ∙ ap (λ ys. z ∷ ys) (filled R z p q xs f (subst (λ j. FoldsTo R j xs q) e.1 h.2))
 
 pub returns : goal.returns
 returns g c =
     let z = g.M.Message.kind.zero in
-    let d = c.args.places.now in
-    c.loop-i.invariant ∙ filled_all c.loop-i.i z d (omega arith) (omega arith)
+    let ran = c.fill_with.ensures.ran in
+    filled _ z _ ran.0 c.fill_with.new.self (λ x j h. search rules) ran.1 ∙ ap (λ n. replicate n z) c.fill_with.ensures.len
