@@ -48,9 +48,7 @@ fn run_lines<R: Rules>(
                 let fault = BenchFault::Unreadable(line);
                 return Err(Stop { line, fault });
             };
-            if let Err(fault) = obey(bench, messages, command) {
-                return Err(Stop { line, fault });
-            }
+            obey(bench, messages, command).map_err(|fault| Stop { line, fault })?;
             line += 1;
             start = i + 1;
         }
@@ -72,8 +70,8 @@ pub fn run_script<R: Rules>(
     ensures came { Ended (scripted R.Record.Message.kind R.Rules.book (program bench.old.system) (table_of bench.old messages.old) script.now) result (table_of bench.new messages.new) }
     ensures system { program bench.new.system ≡ program bench.old.system }
 {
-    if let Some(fault) = bench.unready(messages) {
-        return Err(Stop { line: 0, fault });
-    }
+    bench
+        .ready(messages)
+        .map_err(|fault| Stop { line: 0, fault })?;
     run_lines(bench, messages, script)
 }
