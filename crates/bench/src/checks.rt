@@ -29,7 +29,8 @@ fn is_queued(lengths: &[usize], place: usize) -> bool
         .is_some_and(|length| place % MOST < *length)
 }
 
-// The lowest place where a message is queued that is not the system's.
+// The lowest place where a message is queued that is not the system's. Only this search takes the three together, so they
+// are no struct.
 fn first_wrong<M: Message + Copy>(sizes: Sizes, lengths: &[usize], messages: &[M]) -> Option<usize>
     ensures { (s : Program) → sizes ≡ sizes_of s → result ≡ lowest (wrong_at M.Message.kind s lengths.now messages.now) (length messages.now) 0 }
 {

@@ -34,6 +34,7 @@ impl<R: Rules> Bench<R> {
         self.ready(messages)?;
         let at = usize::from(process);
         if at >= usize::from(self.system.sizes().processes) {
+            // no move has a number from 88 on
             return Err(BenchFault::Impossible(88 + at));
         }
         let times = self.lengths[at].min(R::room());

@@ -50,18 +50,13 @@ pub(crate) fn perform<R: Rules>(
 {
     let mut queue = Queue { places, count };
     let effect = R::effect(act, memory, &queue).ok_or(Hindrance::Impossible)?;
-    let after = match effect.change {
-        Change::Keep => count,
-        Change::Join(message) => {
-            queue.push(message).map_err(|_| Hindrance::Full)?;
-            count + 1
-        }
+    match effect.change {
+        Change::Keep => {}
+        Change::Join(message) => queue.push(message).map_err(|_| Hindrance::Full)?,
         Change::Leave => {
-            let before = queue.len();
             let _ = queue.pop();
-            before.saturating_sub(1)
         }
-    };
+    }
     write(memory, effect.write);
-    Ok(after)
+    Ok(queue.count)
 }

@@ -1,2 +1,3 @@
 pub mod Fifo
 pub mod Kinds
+pub mod Waiting

@@ -2,11 +2,12 @@
 ghost use Rattle.std.specs.Prelude.{◌≡◌, ◌+◌, ◌-◌, ◌≤◌, Ok, Err, is_ok, List, [], ◌∷◌, ◌++◌, map, length, take, drop, if◌then◌else◌, nat_lt, slice_set};
 ghost use Rattle.machines.specs.Message.{newest};
 ghost use Rattle.queue.specs.Fifo.{front, advanced, popped};
+ghost use Rattle.queue.specs.Waiting.{waiting};
 
 use crate::message::Message;
 
 #[derive(Drop)]
-pub struct Queue<'a, M: Message + Copy> {
+pub struct Queue<'a, M> {
     pub places: &'a mut [M],
     pub count: usize,
 }
@@ -90,7 +91,7 @@ impl<'a, M: Message + Copy> Queue<'a, M> {
 
     // The value of the newest own message of a variable.
     pub fn newest_own(&self, variable: u8) -> Option<u8>
-        ensures { result ≡ newest variable (map M.Message.kind.means (take self.now.count self.now.places.now)) }
+        ensures { result ≡ newest variable (waiting M.Message.kind self.now) }
     {
         newest_in(self.messages(), variable)
     }

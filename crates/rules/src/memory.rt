@@ -1,6 +1,7 @@
 // What the rules of the machines share.
-ghost use Rattle.std.specs.Prelude.{◌≡◌, map, take, slice_index};
+ghost use Rattle.std.specs.Prelude.{◌≡◌, slice_index};
 ghost use Rattle.rules.specs.Memory.{still as no_effect, exchanged, is_empty};
+ghost use Rattle.queue.specs.Waiting.{waiting};
 
 use crate::effect::{Change, Effect, Write};
 use queue::{Message, Queue};
@@ -37,7 +38,7 @@ pub(crate) fn exchange<M: Copy>(memory: &[u8], variable: u8, old: u8, new: u8) -
 
 // Whether no message is queued.
 pub(crate) fn is_empty<M: Message + Copy>(queue: &Queue<M>) -> bool
-    ensures { result ≡ is_empty (map M.Message.kind.means (take queue.now.count queue.now.places.now)) }
+    ensures { result ≡ is_empty (waiting M.Message.kind queue.now) }
 {
     queue.len() == 0
 }

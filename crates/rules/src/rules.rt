@@ -1,7 +1,8 @@
 // The rules of a machine.
-ghost use Rattle.std.specs.Prelude.{◌≡◌, map, take};
+ghost use Rattle.std.specs.Prelude.{◌≡◌};
 ghost use Rattle.machines.specs.Step.{number_of};
 ghost use Rattle.rules.specs.Rulebook.{Rulebook, Exact, room};
+ghost use Rattle.queue.specs.Waiting.{waiting};
 
 use crate::act::Act;
 use crate::effect::Effect;
@@ -25,7 +26,7 @@ pub trait Rules {
 
     // What an act does, or none where it is not possible.
     fn effect(act: Act, memory: &[u8], queue: &Queue<Self::Record>) -> Option<Effect<Self::Record>>
-        ensures { result ≡ book.effect act memory.now (map Self.Record.Message.kind.means (take queue.now.count queue.now.places.now)) };
+        ensures { result ≡ book.effect act memory.now (waiting Self.Record.Message.kind queue.now) };
 
     ghost exact: { Exact Self.Record.Message.kind book };
 }

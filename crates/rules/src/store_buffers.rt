@@ -1,8 +1,9 @@
 // Store buffers: a write waits in the queue of its process until an update carries it into memory.
-ghost use Rattle.std.specs.Prelude.{◌≡◌, map, take};
+ghost use Rattle.std.specs.Prelude.{◌≡◌};
 ghost use Rattle.rules.specs.StoreBuffers.{store_manner, store_book, carried};
-ghost use Rattle.queue.specs.Kinds.{store_means};
+ghost use Rattle.queue.specs.Kinds.{store_kind};
 ghost use Rattle.rules.specs.Exactness.{store_exact};
+ghost use Rattle.queue.specs.Waiting.{waiting};
 
 use crate::act::Act;
 use crate::effect::{Change, Effect, Write};
@@ -42,7 +43,7 @@ impl Operations for StoreBuffers {
 
 // An update carries the oldest store into memory.
 fn update(queue: &Queue<StoreMessage>) -> Option<Effect<StoreMessage>>
-    ensures { result ≡ carried (map store_means (take queue.now.count queue.now.places.now)) }
+    ensures { result ≡ carried (waiting store_kind queue.now) }
 {
     queue.oldest().map(|oldest| Effect {
         write: Some(Write {

@@ -42,6 +42,7 @@ fn run_lines<R: Rules>(
 {
     let mut start = 0;
     let mut line = 0;
+    // `split` does not say which pieces an end of line closes, and the last one has to be closed too.
     for i in 0..script.len() {
         if script[i] == b'\n' {
             let Some(command) = parse(&script[start..i]) else {
