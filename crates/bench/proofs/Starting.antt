@@ -1,7 +1,7 @@
 -- The start of a machine on the bench.
-use Rattle.std.proofs.Common.{◌≡◌, ℕ, zero, suc, ◌+◌, ◌<◌, ◌≤◌, true, cond, List, [], ◌∷◌, ◌++◌, map, length, get_or, take, drop, set, replicate, Some, None, sym, refl, ap, ◌∙◌, arith}
+use Rattle.std.proofs.Common.{◌≡◌, ℕ, zero, suc, ◌+◌, ◌≤◌, true, cond, List, [], ◌∷◌, ◌++◌, map, length, get_or, take, drop, replicate, Some, None, refl, ap, ◌∙◌, arith}
 use Rattle.std.specs.List.{range_with_len}
-use Rattle.std.proofs.lemmas.List.{take-replicate, length-replicate, drop_more, drop_all, set_at, append_assoc, append-nil, replicate_more}
+use Rattle.std.proofs.lemmas.List.{take-replicate, length-replicate}
 use Rattle.std.proofs.lemmas.Bool.Decides.{nat_tests}
 use Rattle.files.specs.Program.{Program}
 use Rattle.files.specs.Sizes.{right_sizes}
@@ -10,9 +10,9 @@ use Rattle.machines.specs.Config.{start_of}
 use Rattle.queue.specs.Fifo.{Kind}
 use Rattle.rules.specs.Rulebook.{Rulebook}
 use Rattle.bench.specs.Table.{Table, queue_of, queues, config_of, part, needed}
-use Rattle.bench.specs.Play.{begun, started, done, refused, unless}
+use Rattle.bench.specs.Play.{begun, started, done, unless}
 use Rattle.bench.specs.declared.fault.BenchFault.TheVariants.{Short}
-use Rattle.std.proofs.lemmas.Bool.{lt-ltb, le-ltb}
+use Rattle.std.proofs.lemmas.Bool.{le-ltb}
 
 pub in_range : (states : List ℕ) (variables values : ℕ) → right_sizes states variables values ≡ true → (length states ≤ 4) × (variables ≤ 4)
 in_range states variables values h = (grind (arith, nat_tests), grind (arith, nat_tests))
@@ -39,19 +39,6 @@ start_is k u s t a b c =
 pub zeros_front : (n : ℕ) → n ≤ 4 → ◌≡◌ {A = List ℕ} (take n (0 ∷ 0 ∷ 0 ∷ 0 ∷ [])) (replicate n 0)
 zeros_front n h = take-replicate n 4 0 h
 
--- one more place is made zero
-pub filled_more : {X : Type 0} (n : ℕ) (z : X) (d : List X) → n < length d → set (replicate n z ++ drop n d) n z ≡ replicate (n + 1) z ++ drop (n + 1) d
-filled_more n z d h =
-    ap (λ l. set (replicate n z ++ l) n z) (drop_more d n z h)
-    ∙ set_at (replicate n z) (get_or d n z) (drop (n + 1) d) z n (length-replicate n z)
-    ∙ sym (append_assoc (replicate n z) (z ∷ []) (drop (n + 1) d))
-    ∙ ap (λ l. l ++ drop (n + 1) d) (replicate_more n z)
-
-pub filled_all : {X : Type 0} (n : ℕ) (z : X) (d : List X) → length d ≤ n → n ≤ length d → replicate n z ++ drop n d ≡ replicate (length d) z
-filled_all n z d a b =
-    let e : n ≡ length d = omega arith in
-    ap (λ l. replicate n z ++ l) (drop_all n d a) ∙ append-nil (replicate n z) ∙ ap (λ i. replicate i z) e
-
 -- the records whose first places have been made zero
 pub cleared_front : {X : Type 0} (n m : ℕ) (z : X) (xs ys : List X) → n ≡ m → length (take n xs) ≡ n → ys ≡ replicate (length (take n xs)) z → ys ++ drop n xs ≡ replicate m z ++ drop m xs
 cleared_front n m z xs ys e l h =
@@ -59,6 +46,3 @@ cleared_front n m z xs ys e l h =
 
 pub begun_done : {M : Type 0} (k : Kind M) (u : Rulebook M) (s : Program) (t : Table M) → needed u s ≤ length t.records → begun k u s t ≡ done (started k u s t)
 begun_done k u s t h = ap (λ b. unless (cond b (Some (Short (needed u s))) None) t (done (started k u s t))) (le-ltb (length t.records) (needed u s) h)
-
-pub begun_short : {M : Type 0} (k : Kind M) (u : Rulebook M) (s : Program) (t : Table M) → length t.records < needed u s → begun k u s t ≡ refused (Short (needed u s)) t
-begun_short k u s t h = ap (λ b. unless (cond b (Some (Short (needed u s))) None) t (done (started k u s t))) (lt-ltb (length t.records) (needed u s) h)

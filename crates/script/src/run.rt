@@ -42,7 +42,7 @@ fn run_lines<R: Rules>(
 {
     let mut start = 0;
     let mut line = 0;
-    // `split` does not say which pieces an end of line closes, and the last one has to be closed too.
+    // By index, since `split` does not say which pieces an end of line closes, and no lemma says what `split_inclusive` gives.
     for i in 0..script.len() {
         if script[i] == b'\n' {
             let Some(command) = parse(&script[start..i]) else {
