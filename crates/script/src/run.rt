@@ -42,7 +42,8 @@ fn run_lines<R: Rules>(
 {
     let mut start = 0;
     let mut line = 0;
-    // By index, since `split` does not say which pieces an end of line closes, and no lemma says what `split_inclusive` gives.
+    // By index: `split` does not say which pieces an end of line closes, and the check does not yet state a loop over
+    // `split_inclusive` in a function with a type parameter.
     for i in 0..script.len() {
         if script[i] == b'\n' {
             let Some(command) = parse(&script[start..i]) else {
