@@ -3,7 +3,7 @@ ghost use Rattle.std.specs.Prelude.{◌≡◌, ◌+◌, ◌≤◌, [], ◌∷◌
 ghost use Rattle.files.specs.Program.{program, sizes_of};
 ghost use Rattle.fronts.specs.Fronts.{front_len};
 ghost use Rattle.load_buffers.specs.Lines.{line_of};
-ghost use Rattle.load_buffers.specs.Reading.{Faulty, FrontRead, QueueRead, RowRead, below, is_message, line_fault, one, queue as counted, taken, tests};
+ghost use Rattle.load_buffers.specs.Reading.{Faulty, FrontRead, QueueRead, RowRead, is_message, line_fault, one, queue as counted, taken, tests};
 ghost use Rattle.load_buffers.specs.Rows.{row_length};
 
 use super::layout::{Layout, QUEUE, WIDEST};
