@@ -55,20 +55,23 @@ impl<'a> Front<'a> {
         Some(Front { system, bytes })
     }
 
-    // The state of a process.
+    // The state of a process; 0 where there is no such byte.
     pub fn state(&self, process: u8) -> u8
-        requires { process < length (program self.now.system.now).states }
         ensures { result ≡ slice_index self.now.bytes.now process }
     {
-        self.bytes[usize::from(process)]
+        self.byte(usize::from(process))
     }
 
-    // The value of a variable.
+    // The value of a variable; 0 where there is no such byte.
     pub fn value(&self, variable: u8) -> u8
-        requires { variable < (program self.now.system.now).variables }
         ensures { result ≡ slice_index self.now.bytes.now (length (program self.now.system.now).states + variable) }
     {
-        let memory = usize::from(self.system.sizes().processes);
-        self.bytes[memory + usize::from(variable)]
+        self.byte(usize::from(self.system.sizes().processes) + usize::from(variable))
+    }
+
+    fn byte(&self, place: usize) -> u8
+        ensures { result ≡ slice_index self.now.bytes.now place }
+    {
+        self.bytes.get(place).copied().unwrap_or(0)
     }
 }
