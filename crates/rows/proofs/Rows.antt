@@ -1,9 +1,8 @@
 -- On rows that lie packed in memory.
-use Rattle.std.proofs.Common.{◌≡◌, ℕ, zero, suc, ◌+◌, ◌-◌, ◌*◌, ◌/◌, ◌<◌, ◌≤◌, List, [], ◌∷◌, ◌++◌, length, get_or, take, drop, sym, refl, ap, ◌∙◌, subst, append-nil, mul-le-mul_right, suc-mul, add-mul, mul-le-mul, one-mul, zero-mul, arith}
+use Rattle.std.proofs.Common.{◌≡◌, ℕ, zero, suc, ◌+◌, ◌-◌, ◌*◌, ◌/◌, ◌<◌, ◌≤◌, List, [], ◌∷◌, ◌++◌, length, get_or, take, drop, sym, refl, ap, ◌∙◌, append-nil, mul-le-mul_right, suc-mul, add-mul, mul-le-mul, one-mul, zero-mul, arith}
 use Rattle.std.proofs.lemmas.Nat.{div-add-mod'}
 use Rattle.std.proofs.lemmas.List.{drop-drop, drop-append-le, take-append-le, take_at, nil_from_length, length-take-le, length-append, length-drop}
 use Rattle.rows.specs.Checks.{places}
-use Rattle.rows.specs.Search.{Line, Lowest, Never}
 use Rattle.rows.specs.Standing.{row_at, standing}
 
 -- row i of n ends within n rows
@@ -65,19 +64,3 @@ standing_front w a p q e = ap (λ k. standing w k (p ++ q)) (omega arith) ∙ st
 pub standing_one : (w : ℕ) (p q : List ℕ) → length p ≡ w → standing w 1 (p ++ q) ≡ p ∷ []
 unfolding standing
 standing_one w p q e = ap (λ x. x ∷ []) (take_at p q w e)
-
--- a line by its row in memory, and back
-module _ (w n : ℕ) (mem : List ℕ) (P : List ℕ → Type 0) where
-  pub line_from_row : (i : ℕ) → i < n → P (row_at w mem i) → Line (standing w n mem) P i
-  line_from_row i h p = (omega (arith, standing_length w n mem), subst P (sym (standing_at w n mem i h)) p)
-
-  pub row_from_line : (i : ℕ) → Line (standing w n mem) P i → (i < n) × P (row_at w mem i)
-  row_from_line i l = let h : i < n = omega (arith, standing_length w n mem, l.0) in (h, subst P (standing_at w n mem i h) l.1)
-
-  -- the search that stopped at i
-  pub lowest_line : (i : ℕ) → i < n → ((j : ℕ) → j < i → P (row_at w mem j) → ⊥) → P (row_at w mem i) → Lowest (Line (standing w n mem) P) i
-  lowest_line i h before here = (line_from_row i h here, λ j lt l. before j lt (row_from_line j l).1)
-
-  -- the search that came to the end
-  pub no_line : (i : ℕ) → n ≤ i → ((j : ℕ) → j < i → P (row_at w mem j) → ⊥) → Never (Line (standing w n mem) P)
-  no_line i h before j l = let r = row_from_line j l in before j (omega (arith, r.0)) r.1
