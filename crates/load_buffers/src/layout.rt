@@ -54,4 +54,14 @@ impl Layout {
         let (queues, _) = row[self.queue_at(0)..].as_chunks();
         queues
     }
+
+    // The queue of a process.
+    pub(crate) fn queue_of(self, row: &[u8], process: usize) -> &[u8; QUEUE]
+        requires long { length row.now ≡ row_length self.sizes }
+        requires process { process < self.sizes.processes }
+        ensures { result.now ≡ queue_of self.sizes process row.now }
+    {
+        let (queues, _) = row[self.queue_at(process)..].as_chunks();
+        &queues[0]
+    }
 }

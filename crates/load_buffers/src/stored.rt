@@ -96,7 +96,7 @@ impl<'a> StoredRow<'a> {
         ensures { result.bytes.now ≡ queue_of (sizes_of (program self.entry.system.now)) process self.entry.bytes.now }
     {
         StoredQueue {
-            bytes: &Layout::of(self.system).queues(self.bytes)[usize::from(process)],
+            bytes: Layout::of(self.system).queue_of(self.bytes, usize::from(process)),
         }
     }
 }
