@@ -27,7 +27,8 @@ pub struct Transition {
     pub after: u8,
 }
 
-// The operation of four bytes, if its code is known and the fields that it does not use are 0.
+// The operation of four bytes of a file, the first of which is its code; none if that is unknown, or a field that the
+// operation does not use is not 0.
 fn operation_of(code: u8, variable: u8, first: u8, second: u8) -> Option<Operation>
     ensures { result ≡ operation_of code variable first second }
 {

@@ -34,6 +34,7 @@ fn fill_front(system: &System, line: &[u8], row: &mut [u8]) -> Result<(), LineFa
     requires { front_len (program system.now) ≤ length row.old }
     ensures { MatchResult result (λ _. FrontRead (program system.now) line.now row.new) (Faulty 0 (map one (tests (program system.now))) line.now) }
 {
+    // A fault is told by its place in the line, so the loop counts the places.
     for i in 0..front_length(system) {
         row[i] = byte_below(line, i, limit(system, i))?;
     }

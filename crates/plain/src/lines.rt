@@ -13,6 +13,7 @@ pub(crate) fn check_line(system: &System, line: &[u8]) -> Result<(), LineFault>
     ensures { LineAnswer (plain_rules (program system.now)) line.now (result_err result) }
 {
     let long = front_length(system);
+    // A fault is told by its place in the line, so the loop counts the places.
     for i in 0..long {
         byte_below(line, i, limit(system, i))?;
     }
