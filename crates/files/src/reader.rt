@@ -25,21 +25,20 @@ impl<'a> ListReader<'a> {
         self.count
     }
 
-    // None past the last line; in a reader that `open` gave, every other number has its line.
+    // None past the last line; every other number has its line.
+    #[tactic(auto, using(crate::proofs::Walks::line_within))]
     pub fn line(&self, number: usize) -> Option<Line<'a>>
         ensures handed { Handed self.now.bytes.now self.now.count number result }
         ensures every { HandsEvery self.now.bytes.now self.now.count number result }
     {
-        // divided, since four times any number may not fit
-        if number >= self.count || number >= self.bytes.len().saturating_sub(2) / 4 {
+        if number >= self.count {
             return None;
         }
         let pair = 2 + 4 * number;
         let place = two_at(self.bytes, pair);
         let length = two_at(self.bytes, pair + 2);
-        let bytes = self.bytes.get(place..place + length)?;
         Some(Line {
-            bytes,
+            bytes: &self.bytes[place..place + length],
             number,
             place,
         })

@@ -16,9 +16,7 @@ use rows::FolderFault;
 
 // The fault of a line, if it is a wrong one.
 fn fault_at<M: Machine>(machine: &M, list: &ListReader, number: usize) -> Option<ListFault>
-    requires right { dir_fault list.now.bytes.now ≡ None }
-    requires count { list.now.count ≡ two list.now.bytes.now 0 }
-    requires within { number < list.now.count }
+    requires { number < list.now.count }
     ensures { FaultAt (M.Machine.rules machine.now) list.now.bytes.now number result }
 {
     let line = list.line(number)?;
@@ -28,8 +26,6 @@ fn fault_at<M: Machine>(machine: &M, list: &ListReader, number: usize) -> Option
 
 // The fault of the lowest wrong line.
 fn first_fault<M: Machine>(machine: &M, list: &ListReader) -> Option<ListFault>
-    requires right { dir_fault list.now.bytes.now ≡ None }
-    requires count { list.now.count ≡ two list.now.bytes.now 0 }
     ensures { FirstFault (M.Machine.rules machine.now) list.now.bytes.now list.now.count result }
 {
     (0..list.count()).find_map(|number| fault_at(machine, list, number))
@@ -38,8 +34,6 @@ fn first_fault<M: Machine>(machine: &M, list: &ListReader) -> Option<ListFault>
 // Writes the rows of the lines one after another, behind those that stand.
 #[tactic(auto, using(crate::proofs::Counts::row_counts))]
 fn write_rows<M: Machine>(machine: &M, list: &ListReader, memory: &mut [u8], standing: usize)
-    requires right { dir_fault list.now.bytes.now ≡ None }
-    requires count { list.now.count ≡ two list.now.bytes.now 0 }
     requires lines { AllLines (M.Machine.rules machine.now) list.now.bytes.now list.now.count }
     requires few { standing + list.now.count ≤ 1024 }
     requires room { (standing + list.now.count) * (M.OrderedRow.kind machine.now).width ≤ length memory.old }

@@ -95,6 +95,7 @@ impl StoredRow<'_> {
     {
         let mut end = front_length(self.system);
         line[..end].copy_from_slice(&self.bytes[..end]);
+        // Each queue ends where the next begins, so the loop goes by the process.
         for p in 0..self.system.sizes().processes {
             let used = self.queue(p).in_use();
             line[end..end + used.len()].copy_from_slice(used);

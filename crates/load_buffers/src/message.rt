@@ -33,6 +33,7 @@ pub(crate) fn is_own(message: u8) -> bool
     message >= 16
 }
 
+// A variable and a value below 4 are what fits into a byte, so the two that make one ask for it.
 pub(crate) fn seen(variable: u8, value: u8) -> u8
     requires variable { variable < 4 }
     requires value { value < 4 }

@@ -14,7 +14,8 @@ pub(crate) const STORED: u8 = 8;
 // the most messages of a queue in any row
 pub(crate) const READ: u8 = 9;
 
-// Whether each queue is one of at most so many messages.
+// Whether each queue is one of at most so many messages. Only the two counts above are asked for, and a type of its own for them
+// would say no more than their names.
 fn queues_fit(layout: Layout, row: &[u8], most: u8) -> bool
     requires long { length row.now ≡ row_length layout.sizes }
     requires most { most ≤ 9 }

@@ -73,7 +73,8 @@ impl<'a> StoredRow<'a> {
         Some(StoredRow { system, bytes })
     }
 
-    // The state of a process.
+    // The state of a process. Numbers of processes and variables come from transitions and slots, where it is known that the
+    // system has them; a type for them would have to carry the system about.
     pub(crate) fn state(self, process: u8) -> u8
         requires { process < length (program self.system.now).states }
         ensures { result ≡ slice_index self.entry.bytes.now process }

@@ -23,10 +23,10 @@ impl Operations for StoreBuffers {
 
     // The newest queued store of the variable tells its value, else memory does.
     fn reads(memory: &[u8], queue: &Queue<StoreMessage>, variable: u8, value: u8) -> bool {
-        queue
-            .newest_own(variable)
-            .unwrap_or_else(|| value_of(memory, variable))
-            == value
+        match queue.newest_own(variable) {
+            Some(newest) => newest == value,
+            None => value_of(memory, variable) == value,
+        }
     }
 
     fn writes(variable: u8, value: u8) -> Effect<StoreMessage> {

@@ -33,20 +33,23 @@ fn transition(tens: u8, ones: u8) -> Option<u8>
 pub fn parse(line: &[u8]) -> Option<Command>
     ensures { result ≡ line_command line.now }
 {
-    let step = match line {
-        [b't', b' ', ones] => Move::Transition(usize::from(digit_to(*ones, 9)?)),
-        [b't', b' ', tens, ones] => Move::Transition(usize::from(transition(*tens, *ones)?)),
-        [b'p', b' ', process, b' ', variable] => Move::Propagate {
+    let [letter, b' ', rest @ ..] = line else {
+        return None;
+    };
+    let step = match (char::from(*letter), rest) {
+        ('t', [ones]) => Move::Transition(usize::from(digit_to(*ones, 9)?)),
+        ('t', [tens, ones]) => Move::Transition(usize::from(transition(*tens, *ones)?)),
+        ('p', [process, b' ', variable]) => Move::Propagate {
             process: digit_to(*process, 3)?,
             variable: digit_to(*variable, 3)?,
         },
-        [b'd', b' ', process] => Move::Delete {
+        ('d', [process]) => Move::Delete {
             process: digit_to(*process, 3)?,
         },
-        [b'u', b' ', process] => Move::Update {
+        ('u', [process]) => Move::Update {
             process: digit_to(*process, 3)?,
         },
-        [b'a', b' ', process] => return digit_to(*process, 3).map(Command::Drain),
+        ('a', [process]) => return digit_to(*process, 3).map(Command::Drain),
         _ => return None,
     };
     Some(Command::Play(step.number()))

@@ -38,5 +38,5 @@ loop-i-preserved g c =
           let done = read_done k u w.in-Some.line.bytes.now was row w.read_line.result w.read_line.ensures long (subst (IsLine u) (sym line) (c.requires.lines i (omega arith))) in
           subst (LinesAdded k u file n (i + 1) m) (sym w.memory-is)
           (added_more k u file n m i v l row wide room (w.read_line.auto.row ∙ long) (subst (λ q. RowOf u q row) line done) c.loop-i.invariant)
-      | in_default w ↦ absurd (false≢true (w.in_default.ensures.every c.requires.right c.requires.count (omega arith)))
+      | in_default w ↦ absurd (false≢true (w.in_default.ensures.every c.args.list.now.right c.args.list.now.counted (omega arith)))
     ]
