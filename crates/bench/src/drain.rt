@@ -19,13 +19,13 @@ impl<R: Rules> Bench<R> {
         ensures came { Came (repeated R.Record.Message.kind R.Rules.book (program self.old.system) number times (table_of self.old messages.old)) result (table_of self.new messages.new) }
         ensures system { program self.new.system ≡ program self.old.system }
     {
-        for _i in 0..times {
+        for _ in 0..times {
             self.play(messages, number)?;
         }
         Ok(())
     }
 
-    // Takes the oldest message of a process as often as it has messages.
+    // Takes the oldest message of a process as often as it has messages. That the queue is empty then is proved once of this call.
     fn take_all(&mut self, messages: &mut [R::Record], process: u8) -> Result<(), BenchFault>
         ensures came { Came (drained R.Record.Message.kind R.Rules.book (program self.old.system) (table_of self.old messages.old) process) result (table_of self.new messages.new) }
         ensures system { program self.new.system ≡ program self.old.system }
@@ -34,7 +34,7 @@ impl<R: Rules> Bench<R> {
         self.ready(messages)?;
         let at = usize::from(process);
         if at >= usize::from(self.system.sizes().processes) {
-            // no move has a number from 88 on
+            // no move has a number from 88 on: this one stands in the refusal alone
             return Err(BenchFault::Impossible(88 + at));
         }
         let times = self.lengths[at].min(R::room());

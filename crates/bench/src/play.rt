@@ -33,7 +33,7 @@ impl<R: Rules> Bench<R> {
         deed_of(&self.system, &self.states[0..processes], number)
     }
 
-    // Makes a move, or says why not.
+    // Makes a move, or says why not. What that means on the machine is proved once of this call, and not at each of its exits.
     fn make(&mut self, messages: &mut [R::Record], number: usize) -> Result<(), BenchFault>
         ensures came { Came (played R.Record.Message.kind R.Rules.book (program self.old.system) (table_of self.old messages.old) number) result (table_of self.new messages.new) }
         ensures system { program self.new.system ≡ program self.old.system }

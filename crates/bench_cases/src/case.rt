@@ -11,7 +11,7 @@ use std::alloc::Global;
 #[derive(Drop)]
 pub struct BenchCase {
     name: String,
-    machine: Machine,
+    machine: String,
     system: Vec<u8>,
     // one call to a line
     calls: String,
@@ -27,7 +27,10 @@ impl BenchCase {
         let calls = self.calls.as_str();
         let mut stores = [StoreMessage::of(true, 0, 0); 64];
         let mut loads = [LoadMessage::of(false, 0, 0); 64];
-        match self.machine {
+        let Ok(machine) = self.machine.as_str().parse::<Machine>() else {
+            return Err(anyhow!("an unknown machine"));
+        };
+        match machine {
             Machine::StoreBuffers => session(heap, StoreBuffers, system, &mut stores, calls),
             Machine::LoadBuffers => session(heap, LoadBuffers, system, &mut loads, calls),
             Machine::Plain => session(heap, Plain, system, &mut loads, calls),
@@ -36,11 +39,10 @@ impl BenchCase {
 }
 
 impl Case for BenchCase {
-    // A case on store buffers, until its lines say otherwise.
     fn new(heap: Global) -> BenchCase {
         BenchCase {
             name: String::new(heap),
-            machine: Machine::StoreBuffers,
+            machine: String::new(heap),
             system: Vec::new(heap),
             calls: String::new(heap),
             expected: String::new(heap),
@@ -53,7 +55,7 @@ impl Case for BenchCase {
         };
         match word {
             "case" => self.name = String::from_str(heap, rest)?,
-            "machine" => self.machine = rest.parse::<Machine>()?,
+            "machine" => self.machine = String::from_str(heap, rest)?,
             "system" => self.system = decode(heap, rest)?,
             "call" => writeln!(self.calls, "{rest}")?,
             ">" => writeln!(self.expected, "{rest}")?,

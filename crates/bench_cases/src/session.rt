@@ -29,6 +29,15 @@ fn show_records<M: Record>(out: &mut String, records: &[M]) -> Result<(), AllocE
     out.push_str("\n")
 }
 
+// Refuses a call that says more than it has to.
+fn check_end(words: &Words) -> anyhow::Result<()> {
+    if words.rest.is_empty() {
+        Ok(())
+    } else {
+        Err(anyhow!("words left over"))
+    }
+}
+
 // Puts a record into its place.
 fn poke<M: Record + Copy>(records: &mut [M], words: &mut Words) -> anyhow::Result<()> {
     let place = words.number()?;
@@ -38,6 +47,7 @@ fn poke<M: Record + Copy>(records: &mut [M], words: &mut Words) -> anyhow::Resul
         words.word().parse::<u8>()?,
         words.word().parse::<u8>()?,
     );
+    check_end(words)?;
     if let Some(at) = records.get_mut(place) {
         *at = record;
     }
@@ -50,10 +60,8 @@ fn script_on<M: Record + Copy, R: Rules<Record = M>>(
     records: &mut [M],
     script: &[u8],
 ) -> Result<(), BenchFault> {
-    match run_script(bench, records, script) {
-        Ok(_) => Ok(()),
-        Err(stop) => Err(stop.fault),
-    }
+    run_script(bench, records, script).map_err(|stop| stop.fault)?;
+    Ok(())
 }
 
 // Makes one call that lends the first records, and gives its answer.
@@ -68,16 +76,19 @@ fn call<M: Record + Copy, R: Rules<Record = M>>(
     match verb {
         "begin" => {
             let count = words.number()?.min(most);
+            check_end(words)?;
             Ok(bench.begin(&mut records[0..count]))
         }
         "play" => {
             let number = words.number()?;
             let count = words.number()?.min(most);
+            check_end(words)?;
             Ok(bench.play(&mut records[0..count], number))
         }
         "script" => {
             let script = decode(heap, words.word())?;
             let count = words.number()?.min(most);
+            check_end(words)?;
             Ok(script_on(bench, &mut records[0..count], script.as_slice()))
         }
         "poke" => {
@@ -129,6 +140,7 @@ pub fn session<M: Record + Copy, R: Rules<Record = M> + Drop>(
         let verb = words.word();
         if verb == "whole" {
             let script = decode(heap, words.word())?;
+            check_end(&words)?;
             whole(&mut out, &mut bench, records, script.as_slice())?;
             continue;
         }

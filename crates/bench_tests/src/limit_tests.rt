@@ -16,19 +16,11 @@ const WRITER: [u8; 23] = [
 const NINE: &[u8] = b"t 0\nt 0\nt 0\nt 0\nt 0\nt 0\nt 0\nt 0\nt 0\n";
 
 fn writer(heap: Global) -> Result<System, Fail> {
-    match System::read(heap, &WRITER) {
-        Ok(system) => Ok(system),
-        Err(_) => Err(Fail::new("no system")),
-    }
+    System::read(heap, &WRITER).map_err(|_| Fail::new("no system"))
 }
 
 fn part_four(number: u8, place: usize) -> Option<Refusal> {
-    Some(Refusal {
-        number,
-        part: 4,
-        place,
-        inner: 0,
-    })
+    Some(Refusal::new(number, 4, place))
 }
 
 fn of_load(
@@ -36,10 +28,9 @@ fn of_load(
     records: &mut [LoadMessage],
     script: &[u8],
 ) -> Option<Refusal> {
-    match run_script(bench, records, script) {
-        Ok(_) => None,
-        Err(stop) => Some(Refusal::from(stop.fault)),
-    }
+    run_script(bench, records, script)
+        .err()
+        .map(|stop| Refusal::from(stop.fault))
 }
 
 const NONE: LoadMessage = LoadMessage {

@@ -62,6 +62,7 @@ fn write_words<W: fmt::Write, M: Record>(f: &mut fmt::Formatter<W>, queue: &[M])
 
 impl<'a, M: Record> fmt::Display for Queues<'a, M> {
     fn fmt<W: fmt::Write>(&self, f: &mut fmt::Formatter<W>) -> fmt::Result {
+        // Each process has its line, also where no records are lent, so this goes by process and not by chunks of the records.
         for (process, length) in self.look.lengths.iter().enumerate() {
             let at = process.saturating_mul(8).min(self.records.len());
             let end = at.saturating_add(*length).min(self.records.len());

@@ -12,6 +12,15 @@ pub struct CheckCase {
     expected: String,
 }
 
+// The bytes of two digits each, in lower case alone.
+fn bytes_of(heap: Global, text: &str) -> anyhow::Result<Vec<u8>> {
+    let digits = |byte| matches!(byte, b'0'..=b'9' | b'a'..=b'f');
+    if !text.bytes().all(digits) {
+        return Err(anyhow!("no hexadecimal digit"));
+    }
+    decode(heap, text)
+}
+
 impl Case for CheckCase {
     fn new(heap: Global) -> CheckCase {
         CheckCase {
@@ -28,8 +37,8 @@ impl Case for CheckCase {
         };
         match word {
             "case" => self.name = String::from_str(heap, rest)?,
-            "system" => self.system = decode(heap, rest)?,
-            "list" => self.list = decode(heap, rest)?,
+            "system" => self.system = bytes_of(heap, rest)?,
+            "list" => self.list = bytes_of(heap, rest)?,
             ">" => writeln!(self.expected, "{rest}")?,
             _ => return Err(anyhow!("an unknown word")),
         }

@@ -12,11 +12,11 @@ use ledger::{Answer, Deed, replay};
 use load_buffers::LoadBuffers;
 use machines::OrderedRow;
 use report::{Outcome, check};
-use rows::MOST_LINES;
+use rows::{LONGEST_LINE, MOST_LINES};
 use std::fs;
 
 // the longest list file: 1,024 lines of 59 bytes, behind their directory
-const LONGEST_FILE: usize = 2 + (4 + 59) * MOST_LINES;
+const LONGEST_FILE: usize = 2 + (4 + LONGEST_LINE) * MOST_LINES;
 
 // The list that was taken in, with the lines that it grew by, as a list file.
 fn completed(rt: &HostRuntime, system: System, list: &[u8]) -> anyhow::Result<Vec<u8>> {
@@ -36,13 +36,11 @@ fn completed(rt: &HostRuntime, system: System, list: &[u8]) -> anyhow::Result<Ve
     }
     grow_all(rt, &mut folder, &mut memory)?;
     let mut file = vec![in rt.alloc(); 0; LONGEST_FILE]?;
-    match folder.write_out(&memory, &mut file) {
-        Ok(size) => {
-            file.truncate(size);
-            Ok(file)
-        }
-        Err(_) => Err(anyhow!("the list is not written out")),
-    }
+    let Ok(size) = folder.write_out(&memory, &mut file) else {
+        return Err(anyhow!("the list is not written out"));
+    };
+    file.truncate(size);
+    Ok(file)
 }
 
 fn run(rt: &HostRuntime) -> anyhow::Result<()> {

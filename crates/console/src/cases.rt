@@ -1,6 +1,8 @@
 // Cases in a text: what one of them says, and how many come out as expected.
-ghost use Rattle.std.specs.Prelude.{◌≤◌};
+ghost use Rattle.std.specs.Prelude.{Some};
+ghost use Rattle.console.specs.Told.{tally_text};
 
+use crate::tally::Tally;
 use std::alloc::Global;
 use std::fmt;
 
@@ -15,25 +17,9 @@ pub trait Case: Drop {
     fn agrees(&self, rt: &HostRuntime) -> anyhow::Result<bool>;
 }
 
-// How many cases there were, and how many of them agree.
-#[derive(Clone, Copy, PartialEq, Eq, Debug)]
-pub struct Tally {
-    cases: usize,
-    agreeing: usize,
-    ghost within: { agreeing ≤ cases },
-}
-
-impl Tally {
-    fn with(self, agrees: bool) -> Tally {
-        let agreeing = usize::from(agrees);
-        Tally {
-            cases: self.cases.saturating_add(1),
-            agreeing: self.agreeing.saturating_add(agreeing),
-        }
-    }
-}
-
 impl fmt::Display for Tally {
+    ghost output = { λ t. Some (tally_text t) };
+
     fn fmt<W: fmt::Write>(&self, f: &mut fmt::Formatter<W>) -> fmt::Result {
         let (cases, agreeing) = (self.cases, self.agreeing);
         write!(f, "{cases} cases, {agreeing} agree")

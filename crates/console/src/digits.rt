@@ -1,5 +1,5 @@
 // Bytes as text.
-ghost use Rattle.std.specs.Prelude.{◌≡◌, ◌≢◌, [], ◌∷◌, Ok, IfOk};
+ghost use Rattle.std.specs.Prelude.{◌≡◌, ◌≢◌, [], ◌∷◌, Ok, IfOk, IsOkAnd};
 ghost use Rattle.hex.specs.Hex.{decode_of};
 
 use std::alloc::Global;
@@ -20,7 +20,7 @@ impl<'a> fmt::Display for Hex<'a> {
 
 // The bytes of two hexadecimal digits each; a dash is no bytes.
 pub fn decode(heap: Global, text: &str) -> anyhow::Result<Vec<u8>>
-    ensures dash { text.now ≡ (45 ∷ []) → IfOk result (λ bytes. bytes.items ≡ []) }
+    ensures dash { text.now ≡ (45 ∷ []) → IsOkAnd result (λ bytes. bytes.items ≡ []) }
     ensures digits { text.now ≢ (45 ∷ []) → IfOk result (λ bytes. decode_of text.now ≡ Ok bytes.items) }
 {
     if text == "-" {

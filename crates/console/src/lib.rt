@@ -4,9 +4,11 @@
 mod cases;
 mod digits;
 mod input;
+mod tally;
 mod words;
 
-pub use cases::{Case, Tally, run_cases};
+pub use cases::{Case, run_cases};
 pub use digits::{Hex, decode};
 pub use input::{folder_named, read};
+pub use tally::Tally;
 pub use words::Words;

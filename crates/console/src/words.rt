@@ -28,7 +28,7 @@ impl<'a> Words<'a> {
         }
     }
 
-    // The next word as a number, in decimal digits.
+    // The next word as a number: decimal digits, with a plus in front or none.
     pub fn number(&mut self) -> anyhow::Result<usize>
         ensures number { ParsesUnsigned 64 10 (first_word self.old.rest.now) result }
         ensures rest { self.new.rest.now ≡ other_words self.old.rest.now }

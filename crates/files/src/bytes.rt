@@ -8,5 +8,5 @@ pub(crate) fn two_at(bytes: &[u8], at: usize) -> usize
     ensures value { result ≡ two bytes.now at }
     ensures small { result < 65536 }
 {
-    256 * usize::from(bytes[at]) + usize::from(bytes[at + 1])
+    usize::from(u16::from_be_bytes([bytes[at], bytes[at + 1]]))
 }

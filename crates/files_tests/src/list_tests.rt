@@ -9,19 +9,11 @@ use std::test::Fail;
 
 // The refusal of a file, or None where it is opened.
 fn refusal_of(bytes: &[u8]) -> Option<Refusal> {
-    match ListReader::open(bytes) {
-        Ok(_) => None,
-        Err(fault) => Some(Refusal::from(fault)),
-    }
+    ListReader::open(bytes).err().map(Refusal::from)
 }
 
 fn directory(place: usize) -> Option<Refusal> {
-    Some(Refusal {
-        number: 6,
-        part: 2,
-        place,
-        inner: 0,
-    })
+    Some(Refusal::new(6, 2, place))
 }
 
 // A list of lines of one byte each.

@@ -15,19 +15,11 @@ const LARGE: &str =
 
 // The refusal of a file, or None where it is read.
 fn refusal_of(heap: Global, bytes: &[u8]) -> Option<Refusal> {
-    match System::read(heap, bytes) {
-        Ok(_) => None,
-        Err(fault) => Some(Refusal::from(fault)),
-    }
+    System::read(heap, bytes).err().map(Refusal::from)
 }
 
 fn part_one(number: u8, place: usize) -> Option<Refusal> {
-    Some(Refusal {
-        number,
-        part: 1,
-        place,
-        inner: 0,
-    })
+    Some(Refusal::new(number, 1, place))
 }
 
 // A system of one process with so many transitions and patterns.

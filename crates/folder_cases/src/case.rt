@@ -72,8 +72,12 @@ impl Case for FolderCase {
         let (word, rest) = line.split_once(' ').unwrap_or((line, ""));
         match word {
             "case" => self.name = String::from_str(heap, rest)?,
-            "kind" => self.kind = rest.parse::<Kind>()?,
-            "machine" => self.over = rest.parse::<Over>()?,
+            "kind" => self.kind = rest
+                .parse::<Kind>()
+                .map_err(|_| anyhow!("an unknown kind"))?,
+            "machine" => self.over = rest
+                .parse::<Over>()
+                .map_err(|_| anyhow!("an unknown machine"))?,
             "free" => self.free = true,
             "system" => self.system = decode(heap, rest)?,
             "list" => self.list = decode(heap, rest)?,

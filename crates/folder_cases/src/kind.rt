@@ -1,6 +1,4 @@
 // What a case asks for, and the machine that it runs over, as they are named.
-use std::error::Error;
-use std::fmt;
 use std::str::FromStr;
 
 #[derive(Clone, Copy)]
@@ -47,11 +45,3 @@ impl FromStr for Over {
         }
     }
 }
-
-impl fmt::Display for UnknownWord {
-    fn fmt<W: fmt::Write>(&self, f: &mut fmt::Formatter<W>) -> fmt::Result {
-        f.write_str("an unknown kind or machine")
-    }
-}
-
-impl Error for UnknownWord {}

@@ -93,9 +93,9 @@ impl<M: Machine> Session<M> {
             Answer::Grew(Ok(true)) => Ok(Reply::Added(self.last_line(heap)?)),
             Answer::Grew(Ok(false)) => Ok(Reply::Nothing),
             Answer::Ruled(Ok(verdict)) => Ok(Reply::Ruled(verdict)),
-            Answer::Changed(Err(fault)) => Ok(Reply::Refused(fault.into())),
-            Answer::Grew(Err(fault)) => Ok(Reply::Refused(fault.into())),
-            Answer::Ruled(Err(fault)) => Ok(Reply::Refused(fault.into())),
+            Answer::Changed(Err(fault)) | Answer::Grew(Err(fault)) | Answer::Ruled(Err(fault)) => {
+                Ok(Reply::Refused(fault.into()))
+            }
         }
     }
 

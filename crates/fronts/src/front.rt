@@ -31,6 +31,7 @@ pub fn front_fits(system: &System, front: &[u8]) -> bool
     ensures { Decides result (FrontFits (program system.now) front.now) }
 {
     let long = front_length(system);
+    // By place: this is asked of every row, and enumerating its bytes is slower.
     front.len() == long && (0..long).all(|i| front[i] < limit(system, i))
 }
 

@@ -12,7 +12,7 @@ pub enum Verdict {
     Start(usize),
     // some bad configuration is uncovered
     Bad,
-    // something uncovered steps to above this line, the lowest such, by this move, the lowest such
+    // something uncovered steps to above this line, the lowest such, by the move with this number, the lowest such
     Leak(usize, u8),
 }
 

@@ -1,5 +1,5 @@
 // Any list of calls, played one after another on one folder and its memory.
-ghost use Rattle.std.specs.Prelude.{◌≡◌, ◌≤◌, min, [], length, take};
+ghost use Rattle.std.specs.Prelude.{◌≡◌, min, [], length, take};
 ghost use Rattle.rows.specs.Standing.{standing};
 ghost use Rattle.ledger.specs.Ledger.{Called, Played, state};
 

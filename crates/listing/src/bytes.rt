@@ -1,4 +1,4 @@
-// Bytes and numbers, laid over a place.
+// Bytes and numbers, laid over a place. The place is lent whole, so what is written says where it ends.
 ghost use Rattle.std.specs.Prelude.{◌≡◌, ◌+◌, ◌<◌, ◌≤◌, ◌++◌, length};
 ghost use Rattle.files.specs.Writer.{two_bytes};
 ghost use Rattle.listing.specs.Laid.{laid};
@@ -19,7 +19,7 @@ pub(crate) fn two_bytes(n: usize) -> [u8; 2]
     requires { n < 65536 }
     ensures { result ≡ two_bytes n }
 {
-    [(n / 256) as u8, (n % 256) as u8]
+    (n as u16).to_be_bytes()
 }
 
 // Writes a line's offset and length at `at` and gives where they end.

@@ -8,10 +8,7 @@ ghost use Rattle.listing.specs.Listing.{ReadsBack, Written, list_checks};
 
 use super::bytes::{append, append_pair, two_bytes};
 use machines::Machine;
-use rows::{FolderFault, Lines, Storable};
-
-// no line is longer
-const LONGEST: usize = 59;
+use rows::{FolderFault, LONGEST_LINE, Lines, Storable};
 
 // Writes a row's line to the front of a place and gives its length.
 fn put_line<M: Machine>(lines: &Storable<M>, row: &[u8], place: &mut [u8]) -> usize
@@ -29,7 +26,7 @@ fn line_len<M: Machine>(lines: &Storable<M>, row: &[u8]) -> usize
     ensures size { result ≡ length ((M.Machine.rules lines.now.machine).line_of row.now) }
     ensures short { result ≤ 59 }
 {
-    put_line(lines, row, &mut [0; LONGEST])
+    put_line(lines, row, &mut [0; LONGEST_LINE])
 }
 
 // The length of the list file.

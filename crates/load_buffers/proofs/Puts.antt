@@ -13,12 +13,6 @@ pub record Put (s : Program) (row : List ℕ) (end p : ℕ) (line : List ℕ) : 
   pub short : end ≤ front_len s + 9 * p
   pub part : (k : ℕ) → k + p ≡ length s.states → take end line ++ in_use k (drop (front_len s + 10 * p) row) ≡ line_of s row
 
-pub put_none : (s : Program) (row front post : List ℕ) (end : ℕ) → end ≡ front_len s → front ≡ take end row → end ≤ length row → Put s row end 0 (front ++ post)
-put_none s row front post end e f h =
-    let none : front_len s + 10 * 0 ≡ front_len s = add-zero (front_len s) in
-    let t = take_at front post end (ap length f ∙ length-take-le end row h) in
-    record { short = omega arith; part = λ k o. let m : k ≡ length s.states = omega arith in rw (none, t, f, e, m) }
-
 module _ (s : Program) (row : List ℕ) (end p : ℕ) (line : List ℕ) (put : Put s row end p line) where
   -- what is in use of a queue's ten bytes q, whose count is c
   pub put_more : (q used : List ℕ) (c size next : ℕ) → q ≡ queue_of (sizes_of s) p row → c ≡ get_or q 0 0 → c ≤ 8 → used ≡ take (suc c) q → length used ≡ suc c → next ≡ end + suc c → end ≤ length line → Put s row next (p + 1) (put_mid end size line used)

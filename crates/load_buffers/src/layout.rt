@@ -6,7 +6,7 @@ ghost use Rattle.load_buffers.specs.Rows.{queue_at, queue_of, row_length};
 use files::sizes::Sizes;
 use files::system::System;
 
-// a queue's count and its nine places
+// a queue's count and its nine places, as they lie in a row's bytes
 pub(crate) const QUEUE: usize = 10;
 
 // the row of four processes and four variables

@@ -15,7 +15,7 @@ use script::run_script;
 use std::alloc::{AllocError, Global};
 use std::env;
 
-// The first lines of a script, which were played. Bytes that are no text stand in the line as they are.
+// The first lines of a script, which were played.
 fn write_played(out: &mut String, script: &[u8], lines: usize) -> Result<(), AllocError> {
     for line in script.split_inclusive(|byte| *byte == b'\n').take(lines) {
         out.push_str("played ")?;

@@ -1,5 +1,5 @@
 // A queue over lent places: the first `count` of them hold its messages, oldest first.
-ghost use Rattle.std.specs.Prelude.{◌≡◌, ◌+◌, ◌-◌, ◌≤◌, Ok, Err, is_ok, List, [], ◌∷◌, ◌++◌, map, length, take, drop, if◌then◌else◌, nat_lt, slice_set};
+ghost use Rattle.std.specs.Prelude.{◌≡◌, ◌+◌, ◌-◌, ◌≤◌, Ok, Err, is_ok, [], ◌∷◌, ◌++◌, map, length, take, drop, if◌then◌else◌, nat_lt, slice_set};
 ghost use Rattle.machines.specs.Message.{newest};
 ghost use Rattle.queue.specs.Fifo.{front, advanced, popped};
 ghost use Rattle.queue.specs.Waiting.{waiting};

@@ -12,9 +12,6 @@ row_end i n w h =
     let p : (i + 1) * w ≤ n * w = mul-le-mul_right w k in
     omega (arith, p, add-mul i 1 w, one-mul w)
 
-pub product_small : (n w : ℕ) → n ≤ 1024 → w ≤ 60 → n * w ≤ 61440
-product_small n w hn hw = let p : n * w ≤ 1024 * 60 = mul-le-mul hn hw in omega arith
-
 -- lines for which there are places fit into memory
 pub places_fit : (n w memory : ℕ) → n ≤ places w memory → n * w ≤ memory
 places_fit n w memory h = let q : n * w ≤ memory / w * w = mul-le-mul_right w (omega arith) in omega (arith, q, div-add-mod' memory w)

@@ -9,6 +9,6 @@ mod storable;
 mod strip;
 
 pub use fault::FolderFault;
-pub use lines::{Lines, MOST_LINES, WIDEST};
+pub use lines::{LONGEST_LINE, Lines, MOST_LINES, WIDEST};
 pub use storable::Storable;
 pub use strip::Strip;

@@ -7,6 +7,9 @@ pub const MOST_LINES: usize = 1024;
 // no machine has wider rows
 pub const WIDEST: usize = 60;
 
+// no machine has longer lines
+pub const LONGEST_LINE: usize = 59;
+
 #[derive(Clone, Copy)]
 pub struct Lines<'a> {
     pub bytes: &'a [u8],

@@ -16,11 +16,11 @@ pub trait Rules {
 
     ghost book: { Rulebook Self.Record };
 
-    // How many messages a process may have pending.
+    // How many messages a process may have pending. This is no constant, since a clause cannot name one of a type parameter.
     fn room() -> usize
         ensures { result ≡ room book };
 
-    // The number of the move that takes the oldest message of a process.
+    // The number of the move that takes the oldest message of a process, as calls and refusals name it.
     fn emptying(process: u8) -> usize
         ensures { result ≡ number_of process book.emptying };
 

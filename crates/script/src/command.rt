@@ -6,7 +6,7 @@ use rules::Move;
 
 #[derive(Clone, Copy, PartialEq, Eq, Debug)]
 pub enum Command {
-    // the move with this number
+    // the move with this number, by which it is played and refused
     Play(usize),
     // the queue of this process is emptied
     Drain(u8),

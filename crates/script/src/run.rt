@@ -42,7 +42,7 @@ fn run_lines<R: Rules>(
 {
     let mut start = 0;
     let mut line = 0;
-    // By index: `split` does not say which pieces an end of line closes, and the check does not yet state a loop over
+    // By index: `split` does not say which pieces an end of line closes, and the check states no loop over
     // `split_inclusive` in a function with a type parameter.
     for i in 0..script.len() {
         if script[i] == b'\n' {
