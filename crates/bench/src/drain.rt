@@ -19,7 +19,7 @@ impl<R: Rules> Bench<R> {
         ensures came { Came (repeated R.Record.Message.kind R.Rules.book (program self.old.system) number times (table_of self.old messages.old)) result (table_of self.new messages.new) }
         ensures system { program self.new.system ≡ program self.old.system }
     {
-        for _ in 0..times {
+        for _i in 0..times {
             self.play(messages, number)?;
         }
         Ok(())
