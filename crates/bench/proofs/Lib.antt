@@ -2,7 +2,9 @@ pub mod Deeding
 pub mod Emptying
 pub mod Lowest
 pub mod Playing
+pub mod Queued
 pub mod Repeating
+pub mod Searching
 pub mod Starting
 pub mod Stepped
 pub mod Stepping

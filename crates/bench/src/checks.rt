@@ -1,7 +1,7 @@
 // Whether the records that are lent can be played on.
-ghost use Rattle.std.specs.Prelude.{◌≡◌, ◌*◌, ◌/◌, ◌%◌, ◌≤◌, length, nat_lt, slice_index};
+ghost use Rattle.std.specs.Prelude.{◌≡◌, ℕ, ◌+◌, ◌*◌, ◌/◌, ◌<◌, ◌≤◌, not, length, slice_index, IfSome};
+ghost use Rattle.std.specs.List.{position_from};
 ghost use Rattle.std.specs.Result.{result_err};
-ghost use Rattle.rules.specs.Rulebook.{most};
 ghost use Rattle.files.specs.Program.{program, sizes_of, Program};
 ghost use Rattle.bench.specs.Play.{unready, wrong_at, fits, lowest};
 ghost use Rattle.bench.specs.Table.{needed, table_of, Sized};
@@ -20,23 +20,42 @@ fn message_fits<M: Message + Copy>(sizes: Sizes, message: M) -> bool
     message.variable() < sizes.variables && message.value() < sizes.values
 }
 
-// Whether a message is queued at this place.
-fn is_queued(lengths: &[usize], place: usize) -> bool
-    ensures { result ≡ nat_lt (place % most) (slice_index lengths.now (place / most)) }
+// Which of these messages is the first that is not the system's.
+fn wrong_among<M: Message + Copy>(sizes: Sizes, queued: &[M]) -> Option<usize>
+    ensures within { IfSome result (λ i. i < length queued.now) }
+    ensures value { (s : Program) → sizes ≡ sizes_of s → result ≡ position_from (λ m. not (fits s (M.Message.kind.means m))) 0 queued.now }
 {
-    lengths
-        .get(place / MOST)
-        .is_some_and(|length| place % MOST < *length)
+    queued
+        .iter()
+        .position(|message| !message_fits(sizes, *message))
+}
+
+// The place of the first such message in the queue of a process. Only its messages are looked at, and not the places behind
+// them: this is asked at each move.
+fn wrong_in_queue<M: Message + Copy>(
+    sizes: Sizes,
+    lengths: &[usize],
+    messages: &[M],
+    process: usize,
+) -> Option<usize>
+    requires places { 8 * process + 8 ≤ length messages.now }
+    requires process { process < length lengths.now }
+    requires short { slice_index lengths.now process ≤ 8 }
+    ensures { (s : Program) → sizes ≡ sizes_of s → result ≡ lowest (wrong_at M.Message.kind s lengths.now messages.now) 8 (8 * process) }
+{
+    let start = MOST * process;
+    let place = wrong_among(sizes, &messages[start..start + lengths[process]])?;
+    Some(start + place)
 }
 
 // The lowest place where a message is queued that is not the system's. Only this search takes the three together, so they
 // are no struct.
 fn first_wrong<M: Message + Copy>(sizes: Sizes, lengths: &[usize], messages: &[M]) -> Option<usize>
-    ensures { (s : Program) → sizes ≡ sizes_of s → result ≡ lowest (wrong_at M.Message.kind s lengths.now messages.now) (length messages.now) 0 }
+    requires places { length messages.now ≤ 8 * length lengths.now }
+    requires short { (p : ℕ) → slice_index lengths.now p ≤ 8 }
+    ensures { (s : Program) → sizes ≡ sizes_of s → result ≡ lowest (wrong_at M.Message.kind s lengths.now messages.now) (8 * (length messages.now / 8)) 0 }
 {
-    messages.iter().enumerate().position(|(place, message)| {
-        is_queued(lengths, place) && !message_fits(sizes, *message)
-    })
+    (0..messages.len() / MOST).find_map(|process| wrong_in_queue(sizes, lengths, messages, process))
 }
 
 impl<R: Rules> Bench<R> {

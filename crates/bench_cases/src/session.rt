@@ -1,4 +1,6 @@
 // Calls on one bench over 64 records, and what they print.
+ghost use Rattle.std.specs.Prelude.{◌≤◌, IfOk};
+
 use anyhow::anyhow;
 use bench::{Bench, BenchFault, Look};
 use board::{Held, Queues, Record};
@@ -29,25 +31,18 @@ fn show_records<M: Record>(out: &mut String, records: &[M]) -> Result<(), AllocE
     out.push_str("\n")
 }
 
-// Refuses a call that says more than it has to.
-fn check_end(words: &Words) -> anyhow::Result<()> {
-    if words.rest.is_empty() {
-        Ok(())
-    } else {
-        Err(anyhow!("words left over"))
-    }
+// The count of records that are lent to a call, of so many: all that is left of its line.
+fn count_of(words: &Words, most: usize) -> anyhow::Result<usize>
+    ensures { IfOk result (λ count. count ≤ most) }
+{
+    Ok(words.rest.parse::<usize>()?.min(most))
 }
 
 // Puts a record into its place.
 fn poke<M: Record + Copy>(records: &mut [M], words: &mut Words) -> anyhow::Result<()> {
     let place = words.number()?;
     let own = words.word() == "1";
-    let record = M::of(
-        own,
-        words.word().parse::<u8>()?,
-        words.word().parse::<u8>()?,
-    );
-    check_end(words)?;
+    let record = M::of(own, words.word().parse::<u8>()?, words.rest.parse::<u8>()?);
     if let Some(at) = records.get_mut(place) {
         *at = record;
     }
@@ -75,20 +70,17 @@ fn call<M: Record + Copy, R: Rules<Record = M>>(
     let most = records.len();
     match verb {
         "begin" => {
-            let count = words.number()?.min(most);
-            check_end(words)?;
+            let count = count_of(words, most)?;
             Ok(bench.begin(&mut records[0..count]))
         }
         "play" => {
             let number = words.number()?;
-            let count = words.number()?.min(most);
-            check_end(words)?;
+            let count = count_of(words, most)?;
             Ok(bench.play(&mut records[0..count], number))
         }
         "script" => {
             let script = decode(heap, words.word())?;
-            let count = words.number()?.min(most);
-            check_end(words)?;
+            let count = count_of(words, most)?;
             Ok(script_on(bench, &mut records[0..count], script.as_slice()))
         }
         "poke" => {
@@ -139,8 +131,7 @@ pub fn session<M: Record + Copy, R: Rules<Record = M> + Drop>(
         let mut words = Words { rest: line };
         let verb = words.word();
         if verb == "whole" {
-            let script = decode(heap, words.word())?;
-            check_end(&words)?;
+            let script = decode(heap, words.rest)?;
             whole(&mut out, &mut bench, records, script.as_slice())?;
             continue;
         }

@@ -12,11 +12,14 @@ pub struct CheckCase {
     expected: String,
 }
 
-// The bytes of two digits each, in lower case alone.
+// The bytes of two digits each, in lower case alone; here a dash is half a byte like any other.
 fn bytes_of(heap: Global, text: &str) -> anyhow::Result<Vec<u8>> {
-    let digits = |byte| matches!(byte, b'0'..=b'9' | b'a'..=b'f');
-    if !text.bytes().all(digits) {
+    let mut pairs = text.as_bytes().chunks_exact(2);
+    if pairs.any(|pair| pair.iter().any(|byte| byte.is_ascii_uppercase())) {
         return Err(anyhow!("no hexadecimal digit"));
+    }
+    if text == "-" {
+        return Err(anyhow!("half a byte"));
     }
     decode(heap, text)
 }

@@ -1,5 +1,6 @@
 // A case: what it asks for, and the lines that it expects.
 use crate::kind::{Kind, Over};
+use crate::request::Request;
 use crate::run::run_case;
 use anyhow::anyhow;
 use console::{Case, decode};
@@ -15,8 +16,7 @@ pub struct FolderCase {
     pub system: Vec<u8>,
     pub list: Vec<u8>,
     pub grows: usize,
-    // one request to a line
-    pub requests: Vec<String>,
+    pub requests: Vec<Request>,
     pub expected: Vec<String>,
 }
 
@@ -82,7 +82,7 @@ impl Case for FolderCase {
             "system" => self.system = decode(heap, rest)?,
             "list" => self.list = decode(heap, rest)?,
             "grows" => self.grows = rest.parse::<usize>()?,
-            "call" => self.requests.push(String::from_str(heap, rest)?)?,
+            "call" => self.requests.push(Request::read(heap, rest)?)?,
             ">" => self.expected.push(String::from_str(heap, rest)?)?,
             _ => return Err(anyhow!("an unknown word")),
         }

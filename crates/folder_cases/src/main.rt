@@ -4,6 +4,7 @@
 mod case;
 mod kind;
 mod reply;
+mod request;
 mod run;
 mod session;
 

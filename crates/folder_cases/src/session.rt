@@ -2,8 +2,9 @@
 ghost use Rattle.std.specs.Prelude.{◌<◌};
 
 use crate::reply::Reply;
+use crate::request::Request;
 use anyhow::anyhow;
-use console::{Hex, Words, decode};
+use console::{Hex, decode};
 use folder::Folder;
 use ledger::{Answer, Call, Deed, play};
 use machines::{Machine, OrderedRow};
@@ -37,16 +38,6 @@ fn poke(memory: &mut [u8], at: usize, bytes: &[u8]) {
     for (place, byte) in memory[at..].iter_mut().zip(bytes) {
         *place = *byte;
     }
-}
-
-// A call of a deed that needs neither strip nor witness.
-fn change<'a>(deed: Deed<'a>, words: &mut Words) -> anyhow::Result<Call<'a>> {
-    Ok(Call {
-        deed,
-        memory: words.number()?,
-        strip: 0,
-        witness: 0,
-    })
 }
 
 impl<M: Machine + Drop> Session<M> {
@@ -121,77 +112,104 @@ impl<M: Machine> Session<M> {
         self.play(heap, call)
     }
 
-    fn grow(&mut self, heap: Global, words: &mut Words) -> anyhow::Result<Reply> {
+    // Plays a deed that needs neither strip nor witness.
+    fn change(&mut self, heap: Global, deed: Deed, memory: usize) -> anyhow::Result<Reply> {
         let call = Call {
-            deed: Deed::Grow,
-            memory: words.number()?,
-            strip: words.number()?,
+            deed,
+            memory,
+            strip: 0,
             witness: 0,
         };
         self.play(heap, call)
     }
 
-    fn judge(&mut self, heap: Global, words: &mut Words) -> anyhow::Result<Reply> {
+    fn grow(&mut self, heap: Global, memory: usize, strip: usize) -> anyhow::Result<Reply> {
+        let call = Call {
+            deed: Deed::Grow,
+            memory,
+            strip,
+            witness: 0,
+        };
+        self.play(heap, call)
+    }
+
+    fn judge(
+        &mut self,
+        heap: Global,
+        memory: usize,
+        strip: usize,
+        witness: usize,
+    ) -> anyhow::Result<Reply> {
         let call = Call {
             deed: Deed::Judge,
-            memory: words.number()?,
-            strip: words.number()?,
-            witness: words.number()?,
+            memory,
+            strip,
+            witness,
         };
         self.play(heap, call)
     }
 
     // Shows the row of a line.
-    fn show(&self, heap: Global, words: &mut Words) -> anyhow::Result<Reply> {
-        let number = words.number()?;
-        let memory = part(&self.memory, words.number()?);
-        let mut place = vec![in heap; 0; words.number()?.min(BYTES)]?;
-        match self.folder.show(memory, number, &mut place) {
+    fn show(
+        &self,
+        heap: Global,
+        number: usize,
+        memory: usize,
+        place: usize,
+    ) -> anyhow::Result<Reply> {
+        let mut place = vec![in heap; 0; place.min(BYTES)]?;
+        match self
+            .folder
+            .show(part(&self.memory, memory), number, &mut place)
+        {
             Ok(()) => Ok(Reply::Row(part(&place, self.width()).to_vec(heap)?)),
             Err(fault) => Ok(Reply::Refused(fault.into())),
         }
     }
 
     // Writes all lines out.
-    fn write_out(&self, heap: Global, words: &mut Words) -> anyhow::Result<Reply> {
-        let memory = part(&self.memory, words.number()?);
-        let mut place = vec![in heap; 0; words.number()?.min(BYTES)]?;
-        match self.folder.write_out(memory, &mut place) {
+    fn write_out(&self, heap: Global, memory: usize, place: usize) -> anyhow::Result<Reply> {
+        let mut place = vec![in heap; 0; place.min(BYTES)]?;
+        match self
+            .folder
+            .write_out(part(&self.memory, memory), &mut place)
+        {
             Ok(len) => Ok(Reply::File(part(&place, len).to_vec(heap)?)),
             Err(fault) => Ok(Reply::Refused(fault.into())),
         }
     }
 
-    // The answer to a request, which is a word and what goes with it.
-    pub fn answer(&mut self, heap: Global, request: &str) -> anyhow::Result<Reply> {
-        let mut words = Words { rest: request };
-        match words.word() {
-            "enter" => {
-                let line = decode(heap, words.word())?;
-                self.play(heap, change(Deed::Enter(line.as_slice()), &mut words)?)
+    pub fn answer(&mut self, heap: Global, request: &Request) -> anyhow::Result<Reply> {
+        match request {
+            Request::Enter { line, memory } => {
+                self.change(heap, Deed::Enter(line.as_slice()), *memory)
             }
-            "takein" => {
-                let file = decode(heap, words.word())?;
-                self.play(heap, change(Deed::TakeIn(file.as_slice()), &mut words)?)
+            Request::TakeIn { file, memory } => {
+                self.change(heap, Deed::TakeIn(file.as_slice()), *memory)
             }
-            "strike" => {
-                let number = words.number()?;
-                self.play(heap, change(Deed::Strike(number), &mut words)?)
+            Request::Strike { number, memory } => {
+                self.change(heap, Deed::Strike(*number), *memory)
             }
-            "grow" => self.grow(heap, &mut words),
-            "judge" => self.judge(heap, &mut words),
-            "show" => self.show(heap, &mut words),
-            "writeout" => self.write_out(heap, &mut words),
-            "poke" => {
-                let at = words.number()?;
-                poke(&mut self.memory, at, decode(heap, words.word())?.as_slice());
+            Request::Grow { memory, strip } => self.grow(heap, *memory, *strip),
+            Request::Judge {
+                memory,
+                strip,
+                witness,
+            } => self.judge(heap, *memory, *strip, *witness),
+            Request::Show {
+                number,
+                memory,
+                place,
+            } => self.show(heap, *number, *memory, *place),
+            Request::WriteOut { memory, place } => self.write_out(heap, *memory, *place),
+            Request::Poke { at, bytes } => {
+                poke(&mut self.memory, *at, bytes.as_slice());
                 Ok(Reply::Done)
             }
-            "dump" => {
-                let bytes = behind(&self.memory, words.number()?);
-                Ok(Reply::Bytes(part(bytes, words.number()?).to_vec(heap)?))
+            Request::Dump { at, len } => {
+                let bytes = part(behind(&self.memory, *at), *len);
+                Ok(Reply::Bytes(bytes.to_vec(heap)?))
             }
-            _ => Err(anyhow!("an unknown request")),
         }
     }
 

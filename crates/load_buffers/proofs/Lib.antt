@@ -5,6 +5,7 @@ pub mod Puts
 pub mod FrontNumbers
 pub mod Emptied
 pub mod Starts
+pub mod Digits
 pub mod Matching
 pub mod Numbering
 pub mod BadLaws

@@ -1,6 +1,6 @@
 -- A queue of a line, read into ten bytes.
 use Rattle.std.proofs.Common.{◌≡◌, ℕ, suc, ◌+◌, ◌-◌, ◌<◌, ◌≤◌, List, [], ◌∷◌, ◌++◌, map, length, get_or, take, drop, set, replicate, Some, Ok, Err, sym, refl, ap, ◌∙◌, arith}
-use Rattle.std.proofs.lemmas.List.{append_assoc, drop_more, get_or-drop, get_or-take, get_or-set_other, length-drop, length_push, length-take-le, set_at, take_more}
+use Rattle.std.proofs.lemmas.List.{append_assoc, drop_more, get_or-drop, get_or-take, length-drop, length_push, length-take-le, set_at, take_more}
 use Rattle.std.proofs.lemmas.Bool.{ltb-true}
 use Rattle.files.specs.declared.list_fault.LineFault.{LineFault}
 use Rattle.files.specs.declared.sizes.Sizes.{Sizes}
@@ -34,7 +34,6 @@ queue_more l at i j b q f h k v e =
 -- the count at a place is read, and i of its messages
 pub record Partly (z : Sizes) (l : List ℕ) (at count i : ℕ) (q : List ℕ) : Type 0 where
   pub count_is : get_or l at 0 ≡ count
-  pub first : get_or q 0 0 ≡ count
   pub few : count < 9
   pub within : at + 1 + i ≤ length l
   pub ten : q ≡ padded (take (suc i) (drop at l))
@@ -49,7 +48,6 @@ module _ (z : Sizes) (l : List ℕ) (at count : ℕ) where
       let o : at + 1 ≡ at + 1 + 0 = omega arith in
       record {
         count_is = g.2;
-        first = refl;
         few = omega (arith, ltb-true count 9 p);
         within = omega (arith, g.0);
         ten = ap (λ x. padded (take 1 x)) (sym v);
@@ -67,7 +65,6 @@ module _ (z : Sizes) (l : List ℕ) (at count : ℕ) where
         let o : at + 1 + i + 1 ≡ at + 1 + (i + 1) = omega arith in
         record {
           count_is = part.count_is;
-          first = rw (get_or-set_other q j 0 b 0 (omega arith)) part.first;
           few = part.few;
           within = omega (arith, g.0);
           ten = queue_more l at i j b q e (omega arith) g.0 g.2 part.ten;
@@ -82,9 +79,8 @@ module _ (z : Sizes) (l : List ℕ) (at count : ℕ) where
         let k = count - i - 1 in
         part.on (suc k) ss (omega arith) ∙ taken_err (one (is_message z)) l (at + 1 + i) f part.within t (map one (replicate k (is_message z)) ++ ss)
 
-    pub partly_all : i ≡ count → QueueRead z l at (at + (1 + get_or q 0 0)) q
+    pub partly_all : i ≡ count → QueueRead z l at (at + 1 + count) q
     partly_all e =
         let p : Partly z l at count count q = rw e at part in
         let o : suc count ≡ suc (get_or l at 0) = omega arith in
-        let n : at + (1 + get_or q 0 0) ≡ at + 1 + count = omega (arith, p.first) in
-        rw n (record { within = p.within; end_is = omega arith; ten = rw (← o) p.ten; on = λ ss. p.on 0 ss (omega arith) })
+        record { within = p.within; end_is = omega arith; ten = rw (← o) p.ten; on = λ ss. p.on 0 ss (omega arith) }

@@ -1,5 +1,5 @@
 // Lines: the states, the memory values, then for each queue a count and so many messages.
-ghost use Rattle.std.specs.Prelude.{◌≡◌, ◌+◌, ◌≤◌, [], ◌∷◌, map, length, take, Some, MatchResult, slice_index};
+ghost use Rattle.std.specs.Prelude.{◌≡◌, ◌≤◌, [], ◌∷◌, map, length, take, Some, MatchResult};
 ghost use Rattle.files.specs.Program.{program, sizes_of};
 ghost use Rattle.fronts.specs.Fronts.{front_len};
 ghost use Rattle.load_buffers.specs.Lines.{line_of};
@@ -41,19 +41,38 @@ fn fill_front(system: &System, line: &[u8], row: &mut [u8]) -> Result<(), LineFa
     Ok(())
 }
 
-// The queue whose count stands at a place of the line, and behind it the messages.
-fn read_queue(sizes: Sizes, line: &[u8], at: usize) -> Result<[u8; QUEUE], LineFault>
+// Fills in a queue, whose count stands at a place of the line, and gives the place behind it.
+fn fill_queue(
+    sizes: Sizes,
+    line: &[u8],
+    at: usize,
+    queue: &mut [u8; QUEUE],
+) -> Result<usize, LineFault>
     requires { at ≤ length line.now }
-    ensures { MatchResult result (λ queue. QueueRead sizes line.now at (at + (1 + slice_index queue 0)) queue) (Faulty at (counted sizes ∷ []) line.now) }
+    ensures { MatchResult result (λ end. QueueRead sizes line.now at end queue.new) (Faulty at (counted sizes ∷ []) line.now) }
 {
-    let mut queue = [0; QUEUE];
+    *queue = [0; QUEUE];
     let count = byte_below(line, at, STORED + 1)?;
     queue[0] = count;
+    let count = usize::from(count);
     // By index, since a proof does not know what `iter_mut` leaves behind.
-    for i in 0..usize::from(count) {
+    for i in 0..count {
         queue[1 + i] = message_at(sizes, line, at + 1 + i)?;
     }
-    Ok(queue)
+    Ok(at + 1 + count)
+}
+
+// The same for a part of a row. Of an array that is made from a row's part, a proof knows what the row ends as only where the
+// part is an argument.
+fn fill_part(sizes: Sizes, line: &[u8], at: usize, part: &mut [u8]) -> Result<usize, LineFault>
+    requires ten { length part.old ≡ 10 }
+    requires within { at ≤ length line.now }
+    ensures { MatchResult result (λ end. QueueRead sizes line.now at end part.new) (Faulty at (counted sizes ∷ []) line.now) }
+{
+    let Some(queue) = part.as_mut_array() else {
+        unreachable!()
+    };
+    fill_queue(sizes, line, at, queue)
 }
 
 // Fills in a line's row; where the bytes are no line, the row may hold anything.
@@ -66,10 +85,8 @@ fn fill_row(system: &System, line: &[u8], row: &mut [u8]) -> Result<(), LineFaul
     let mut end = front_length(system);
     // By index, since a proof does not know what `as_chunks_mut` leaves behind.
     for p in 0..usize::from(layout.sizes.processes) {
-        let queue = read_queue(layout.sizes, line, end)?;
         let at = layout.queue_at(p);
-        row[at..at + QUEUE].copy_from_slice(&queue);
-        end += 1 + usize::from(queue[0]);
+        end = fill_part(layout.sizes, line, end, &mut row[at..at + QUEUE])?;
     }
     if end < line.len() {
         return Err(LineFault::Byte(end));

@@ -1,12 +1,12 @@
 -- The effects of the three machines are those of their published rules.
-use Rattle.std.specs.Prelude.{◌≡◌, ℕ, Bool, true, false, cond, List, [], ◌∷◌, Some, None, Option, ◌==◌, ◌≢◌, slice_index, refl}
+use Rattle.std.specs.Prelude.{◌≡◌, ℕ, suc, Bool, true, false, cond, List, [], ◌∷◌, map, length, Some, None, Option, ◌==◌, ◌≢◌, slice_index, refl}
 use Rattle.std.proofs.Common.{sym, ap, ◌∙◌, arith}
-use Rattle.std.proofs.lemmas.Bool.{eqb-true, eq-eqb, cond-true, and_parts, and_from, true≢false}
+use Rattle.std.proofs.lemmas.Bool.{eqb-true, eq-eqb, cond-true, and_parts, and_from, ne_eqb, true≢false}
 use Rattle.std.specs.Option.{unwrap_or, option_or}
 use Rattle.files.specs.Program.{Program}
 use Rattle.files.specs.declared.transition.Operation.{Operation}
 use Rattle.files.specs.declared.transition.Operation.TheVariants.{Nop, Read, Write, Fence, Exchange}
-use Rattle.machines.specs.Message.{Queue, seen_of, tells, newest}
+use Rattle.machines.specs.Message.{Message, Queue, seen_of, tells, newest}
 use Rattle.machines.specs.Config.{View, view}
 use Rattle.machines.specs.Step.{Move, transition, propagate, delete, update, Leads}
 use Rattle.machines.specs.StoreBuffers as store
@@ -19,7 +19,7 @@ use Rattle.rules.specs.declared.act.Act.{Act}
 use Rattle.rules.specs.declared.act.Act.TheVariants.{Operate, Propagate, Delete, Update}
 use Rattle.rules.specs.declared.effect.Change.TheVariants.{Keep, Join, Leave}
 use Rattle.rules.specs.declared.effect.Effect.{Effect}
-use Rattle.rules.specs.Memory.{still}
+use Rattle.rules.specs.Memory.{still, is_empty}
 use Rattle.rules.specs.Rulebook.{applied, Is, Acted, Exact}
 use Rattle.rules.specs.StoreBuffers.{store_book, store_operation, store_effect, carried}
 use Rattle.rules.specs.LoadBuffers.{load_book, load_operation, load_effect, yields, is_seen, deleted, propagated}
@@ -196,3 +196,7 @@ plain_bare Update m q e h = absurd (none_some e h)
 pub plain_exact : Exact load_kind plain_book
 plain_exact =
     record { sound = plain_sound; complete = plain_complete; bare = λ h. plain_bare; empties = (Delete, (λ s p q. (refl, refl), λ m q e h. absurd (none_some e h))) }
+
+pub empty_is : {M : Type 0} (f : M → Message) (xs : List M) → (length xs == 0) ≡ is_empty (map f xs)
+empty_is f [] = refl
+empty_is f (x ∷ xs) = ne_eqb (suc (length xs)) 0 (λ e. omega arith)
