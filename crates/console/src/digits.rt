@@ -1,10 +1,11 @@
 // Bytes as text.
-ghost use Rattle.std.specs.Prelude.{◌≡◌, ◌≢◌, [], ◌∷◌, Ok, IfOk, IsOkAnd};
+ghost use Rattle.std.specs.Prelude.{◌≡◌, ◌≢◌, [], ◌∷◌, Ok, IfErr, IfOk, IsOkAnd};
+ghost use Rattle.console.specs.Unread.{Unread};
 ghost use Rattle.hex.specs.Hex.{decode_of};
 
 use anyhow::anyhow;
 use hex::FromHexError;
-use std::alloc::{AllocError, Global};
+use std::alloc::Global;
 use std::fmt;
 
 // Bytes that print as two digits each.
@@ -20,29 +21,22 @@ impl<'a> fmt::Display for Hex<'a> {
     }
 }
 
-// Whether each pair is two digits; a byte that is left over is in none.
-fn has_digit_pairs(text: &[u8]) -> bool {
-    text.chunks_exact(2)
-        .all(|pair| pair.iter().all(|byte| byte.is_ascii_hexdigit()))
-}
-
-// Why a text has no bytes. The pairs are looked at in turn, so a wrong digit in one of them is told before a digit that is
-// left over.
-fn explain(text: &str, error: FromHexError) -> anyhow::Error {
-    match error {
-        FromHexError::OutOfMemory => AllocError.into(),
-        FromHexError::OddLength if has_digit_pairs(text.as_bytes()) => anyhow!("half a byte"),
-        _ => anyhow!("no hexadecimal digit"),
-    }
-}
-
-// The bytes of two hexadecimal digits each; a dash is no bytes.
+// The bytes of two hexadecimal digits each; a dash is no bytes. Whole pairs are read first, so a wrong digit in one of them is
+// told before a digit that is left over.
 pub fn decode(heap: Global, text: &str) -> anyhow::Result<Vec<u8>>
     ensures dash { text.now ≡ (45 ∷ []) → IsOkAnd result (λ bytes. bytes.items ≡ []) }
     ensures digits { text.now ≢ (45 ∷ []) → IfOk result (λ bytes. decode_of text.now ≡ Ok bytes.items) }
+    ensures refused { text.now ≢ (45 ∷ []) → IfErr result (Unread text.now) }
 {
     if text == "-" {
         return Ok(Vec::new(heap));
     }
-    hex::decode(heap, text).map_err(|error| explain(text, error))
+    let digits = text.as_bytes();
+    let paired = digits.len() - digits.len() % 2;
+    match hex::decode(heap, &digits[..paired]) {
+        Ok(bytes) if paired == digits.len() => Ok(bytes),
+        Ok(_) => Err(anyhow!("half a byte")),
+        Err(FromHexError::OutOfMemory) => Err(anyhow!("memory allocation failed")),
+        Err(_) => Err(anyhow!("no hexadecimal digit")),
+    }
 }

@@ -90,7 +90,21 @@ impl<M: Machine> Session<M> {
         }
     }
 
-    fn play(&mut self, heap: Global, call: Call) -> anyhow::Result<Reply> {
+    // Plays a deed that is lent so many bytes of memory, strip and witness.
+    fn play(
+        &mut self,
+        heap: Global,
+        deed: Deed,
+        memory: usize,
+        strip: usize,
+        witness: usize,
+    ) -> anyhow::Result<Reply> {
+        let call = Call {
+            deed,
+            memory,
+            strip,
+            witness,
+        };
         let answer = play(
             &mut self.folder,
             &call,
@@ -103,50 +117,7 @@ impl<M: Machine> Session<M> {
 
     // Plays a deed with all bytes.
     pub fn play_amply(&mut self, heap: Global, deed: Deed) -> anyhow::Result<Reply> {
-        let call = Call {
-            deed,
-            memory: BYTES,
-            strip: BYTES,
-            witness: BYTES,
-        };
-        self.play(heap, call)
-    }
-
-    // Plays a deed that needs neither strip nor witness.
-    fn change(&mut self, heap: Global, deed: Deed, memory: usize) -> anyhow::Result<Reply> {
-        let call = Call {
-            deed,
-            memory,
-            strip: 0,
-            witness: 0,
-        };
-        self.play(heap, call)
-    }
-
-    fn grow(&mut self, heap: Global, memory: usize, strip: usize) -> anyhow::Result<Reply> {
-        let call = Call {
-            deed: Deed::Grow,
-            memory,
-            strip,
-            witness: 0,
-        };
-        self.play(heap, call)
-    }
-
-    fn judge(
-        &mut self,
-        heap: Global,
-        memory: usize,
-        strip: usize,
-        witness: usize,
-    ) -> anyhow::Result<Reply> {
-        let call = Call {
-            deed: Deed::Judge,
-            memory,
-            strip,
-            witness,
-        };
-        self.play(heap, call)
+        self.play(heap, deed, BYTES, BYTES, BYTES)
     }
 
     // Shows the row of a line.
@@ -179,23 +150,24 @@ impl<M: Machine> Session<M> {
         }
     }
 
+    // The answer to a request. A deed that needs no strip or witness is lent none.
     pub fn answer(&mut self, heap: Global, request: &Request) -> anyhow::Result<Reply> {
         match request {
             Request::Enter { line, memory } => {
-                self.change(heap, Deed::Enter(line.as_slice()), *memory)
+                self.play(heap, Deed::Enter(line.as_slice()), *memory, 0, 0)
             }
             Request::TakeIn { file, memory } => {
-                self.change(heap, Deed::TakeIn(file.as_slice()), *memory)
+                self.play(heap, Deed::TakeIn(file.as_slice()), *memory, 0, 0)
             }
             Request::Strike { number, memory } => {
-                self.change(heap, Deed::Strike(*number), *memory)
+                self.play(heap, Deed::Strike(*number), *memory, 0, 0)
             }
-            Request::Grow { memory, strip } => self.grow(heap, *memory, *strip),
+            Request::Grow { memory, strip } => self.play(heap, Deed::Grow, *memory, *strip, 0),
             Request::Judge {
                 memory,
                 strip,
                 witness,
-            } => self.judge(heap, *memory, *strip, *witness),
+            } => self.play(heap, Deed::Judge, *memory, *strip, *witness),
             Request::Show {
                 number,
                 memory,
